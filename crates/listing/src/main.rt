@@ -1,0 +1,182 @@
+// Lists the frames of a tRPC stream: reads standard input, prints a line for each frame once it is whole, with its number,
+// type, id and total size, and last a line that says how the stream ended (document 01, "The listing").
+//
+// It reads in pieces, and for an input of any length it has three buffers: a piece of the input, the frame that the
+// deframer fills, and the text to print. An error of a read or a write ends it with a message on standard error.
+mod text;
+
+use frame::Deframer;
+use frame::Parsed;
+use frame::Progress;
+use frame::Step;
+use libc::STDIN_FILENO;
+use libc::STDOUT_FILENO;
+ghost use mathlib.Core.Path.{_≡_};
+ghost use mathlib.Core.Bool.{true, false};
+ghost use Prim.Native.Nat.{_+_, _≤_, _<_};
+ghost use lib.ListN.{length};
+ghost use Rattle.frame.specs.Calls.{isRefused};
+ghost use Rattle.listing.specs.{maxLine, Text};
+
+// What is kept from piece to piece: the deframer's state, how many frames were listed, how many bytes of the text are not
+// printed yet, and whether the program is done.
+struct Listing {
+    deframer: Deframer,
+    frames: u64,
+    pending: usize,
+    done: bool,
+}
+
+fn main() {
+    let mut piece = io::large_buffer();
+    let mut buffer = io::large_buffer();
+    let mut text = io::large_buffer();
+    list(&mut piece, &mut buffer, &mut text);
+}
+
+// A proved loop has to end, and nothing says that the input does. So the loop counts its reads down, from a number that no
+// run uses up.
+fn list(piece: &mut [u8], buffer: &mut [u8], text: &mut [u8])
+    requires { ⌜ (16 ≤ length (now buffer)) × Text 0 (now text) ⌝ }
+{
+    let mut listing = Listing {
+        deframer: Deframer { held: 0, error: 0 },
+        frames: 0,
+        pending: 0,
+        done: false,
+    };
+    let mut reads = u64::MAX;
+    while 0 < reads && !listing.done {
+        listing = list_next(listing, piece, buffer, text);
+        reads -= 1;
+    }
+}
+
+// Reads a piece and lists the frames that end in it, or at the end of the input lists the end.
+fn list_next(listing: Listing, piece: &mut [u8], buffer: &mut [u8], text: &mut [u8]) -> Listing
+    requires { ⌜ (16 ≤ length (now buffer)) × Text (listing .pending) (now text) ⌝ }
+    ensures { λ r. ⌜ r .pending ≤ length (now (text .entry)) ⌝ }
+{
+    let got = libc::read(STDIN_FILENO, piece);
+    if got < 0 {
+        os::fail(b"listing: standard input");
+        return stopped(listing);
+    }
+    if got == 0 {
+        return list_end(listing, buffer, text);
+    }
+    let n = io::count(got, piece);
+    let listed = list_piece(listing, &piece[..n], buffer, text);
+    if listed.done {
+        return listed;
+    }
+    print(listed, text)
+}
+
+// Lists the frames that end in the piece. A refused header in it is the end of what is listed.
+fn list_piece(listing: Listing, piece: &[u8], buffer: &mut [u8], text: &mut [u8]) -> Listing
+    requires { ⌜ (16 ≤ length (now buffer)) × Text (listing .pending) (now text) ⌝ }
+    ensures { λ r. ⌜ r .pending ≤ length (now (text .entry)) ⌝ }
+{
+    let mut listed = listing;
+    let mut from = 0;
+    while from < piece.len() {
+        let step = deframe_rest(listed.deframer, buffer, piece, from);
+        from += step.taken;
+        listed = list_step(listed, step, buffer, text);
+        if listed.done {
+            break;
+        }
+    }
+    listed
+}
+
+// Hands the rest of the piece to the deframer, which takes at least a byte of it unless it refuses a header.
+fn deframe_rest(deframer: Deframer, buffer: &mut [u8], piece: &[u8], from: usize) -> Step
+    requires { ⌜ from < length (now piece) ⌝ }
+    ensures { λ r. ⌜ (from + r .taken ≤ length (now (piece .entry))) × (isRefused (r .progress) ≡ false → 0 < r .taken) ⌝ }
+{
+    frame::deframe(deframer, buffer, &piece[from..])
+}
+
+// Lists what a call of the deframer came to.
+fn list_step(listing: Listing, step: Step, buffer: &[u8], text: &mut [u8]) -> Listing
+    requires { ⌜ (16 ≤ length (now buffer)) × Text (listing .pending) (now text) ⌝ }
+    ensures { λ r. ⌜ (r .pending ≤ length (now (text .entry))) × (r .done ≡ false → isRefused (step .progress) ≡ false) ⌝ }
+{
+    let next = step.next;
+    let progress = step.progress;
+    let listed = Listing {
+        deframer: next,
+        frames: listing.frames,
+        pending: listing.pending,
+        done: listing.done,
+    };
+    match progress {
+        Progress::Frame(_) => list_frame(listed, buffer, text),
+        Progress::NeedMore => listed,
+        Progress::Refused(_) => list_end(listed, buffer, text),
+    }
+}
+
+// Adds the line of the frame at the start of the buffer, whose header the deframer found good.
+fn list_frame(listing: Listing, buffer: &[u8], text: &mut [u8]) -> Listing
+    requires { ⌜ (16 ≤ length (now buffer)) × Text (listing .pending) (now text) ⌝ }
+    ensures { λ r. ⌜ r .pending ≤ length (now (text .entry)) ⌝ }
+{
+    let Parsed::Good(header) = frame::parse_header(&buffer[..frame::HEADER]) else {
+        return listing;
+    };
+    let mut listed = with_room(listing, text);
+    // No stream has 2^64 frames, so the number does not wrap.
+    listed.frames = std::num::wrapping_add_u64(listed.frames, 1);
+    listed.pending = text::frame_line(text, listed.pending, listed.frames, header);
+    listed
+}
+
+// Prints what is left to print, and the line that says how the stream ended.
+fn list_end(listing: Listing, buffer: &[u8], text: &mut [u8]) -> Listing
+    requires { ⌜ Text (listing .pending) (now text) ⌝ }
+    ensures { λ r. ⌜ (r .pending ≤ length (now (text .entry))) × (r .done ≡ true) ⌝ }
+{
+    let mut listed = with_room(listing, text);
+    if listed.done {
+        return listed;
+    }
+    let end = frame::finish(listed.deframer, buffer);
+    listed.pending = text::end_line(text, listed.pending, end);
+    stopped(print(listed, text))
+}
+
+// Prints the text first where it has no room for another line.
+fn with_room(listing: Listing, text: &[u8]) -> Listing
+    requires { ⌜ Text (listing .pending) (now text) ⌝ }
+    ensures { λ r. ⌜ r .pending + maxLine ≤ length (now (text .entry)) ⌝ }
+{
+    if text::LINE <= text.len() - listing.pending {
+        return listing;
+    }
+    print(listing, text)
+}
+
+fn print(listing: Listing, text: &[u8]) -> Listing
+    requires { ⌜ listing .pending ≤ length (now text) ⌝ }
+    ensures { λ r. ⌜ r .pending ≡ 0 ⌝ }
+{
+    let pending = listing.pending;
+    let mut printed = listing;
+    printed.pending = 0;
+    if !io::write_all(STDOUT_FILENO, &text[..pending]) {
+        os::fail(b"listing: standard output");
+        printed.done = true;
+    }
+    printed
+}
+
+fn stopped(listing: Listing) -> Listing
+    ensures { λ r. ⌜ (r .pending ≡ listing .pending) × (r .done ≡ true) ⌝ }
+{
+    let mut last = listing;
+    last.done = true;
+    last
+}

@@ -1,0 +1,114 @@
+/*
+ * trpc_header_check, as a C program calls it, against a check that is written here on its own: the headers of document 01's
+ * examples with the codes that it gives, every value of every byte of several headers, and every length from 0 to 40.
+ */
+#include <stdio.h>
+#include <stdlib.h>
+#include <string.h>
+
+#include "bekurapi.h"
+
+static unsigned long checks;
+
+/* Document 01, "The 16 bytes" and "Refusal numbers", as one condition after another. */
+static uint32_t expected(const uint8_t *h, size_t len)
+{
+    if (len != 16)
+        return 9;
+
+    uint32_t magic = (uint32_t)h[0] << 8 | h[1];
+    uint32_t total = (uint32_t)h[4] << 24 | (uint32_t)h[5] << 16 | (uint32_t)h[6] << 8 | h[7];
+    uint32_t header_size = (uint32_t)h[8] << 8 | h[9];
+    uint32_t reserved = (uint32_t)h[14] << 8 | h[15];
+    int unary = h[2] == 0;
+
+    return magic != 0x0930                                   ? 3
+           : h[2] > 1                                        ? 4
+           : !unary && (h[3] < 1 || h[3] > 4)                ? 5
+           : total < 16 || total > 65536                     ? 6
+           : unary ? (header_size + 16 > total ? 7 : reserved ? 8 : 0)
+                   : (header_size != 0 ? 7 : reserved ? 8 : 0);
+}
+
+static void fail(const char *what, const uint8_t *bytes, size_t len, uint32_t want, uint32_t got)
+{
+    fprintf(stderr, "header_check: %s: %zu bytes", what, len);
+    for (size_t i = 0; i < len; i++)
+        fprintf(stderr, " %02X", bytes[i]);
+    fprintf(stderr, ": expected %u, got %u\n", (unsigned)want, (unsigned)got);
+    exit(1);
+}
+
+static void check(const char *what, const uint8_t *bytes, size_t len, uint32_t want)
+{
+    uint8_t before[64];
+    memcpy(before, bytes, len);
+    uint32_t got = trpc_header_check(bytes, len);
+    if (got != want)
+        fail(what, bytes, len, want, got);
+    if (memcmp(before, bytes, len) != 0)
+        fail("the bytes were changed", bytes, len, want, got);
+    checks++;
+}
+
+struct row {
+    const char *what;
+    uint8_t header[16];
+    uint32_t code;
+};
+
+/* The rows of document 01's "Checked examples" that are about a header, and one or more for each other code. */
+static const struct row rows[] = {
+    {"unary, id 7", {0x09, 0x30, 0, 0, 0, 0, 0, 16, 0, 0, 0, 0, 0, 7, 0, 0}, 0},
+    {"total 15", {0x09, 0x30, 0, 0, 0, 0, 0, 15, 0, 0, 0, 0, 0, 7, 0, 0}, 6},
+    {"total 65,536", {0x09, 0x30, 0, 0, 0, 1, 0, 0, 0, 0, 0, 0, 0, 7, 0, 0}, 0},
+    {"total 65,537", {0x09, 0x30, 0, 0, 0, 1, 0, 1, 0, 0, 0, 0, 0, 7, 0, 0}, 6},
+    {"magic 30 09", {0x30, 0x09, 0, 0, 0, 0, 0, 16, 0, 0, 0, 0, 0, 7, 0, 0}, 3},
+    {"stream type 0", {0x09, 0x30, 1, 0, 0, 0, 0, 16, 0, 0, 0, 0, 0, 7, 0, 0}, 5},
+    {"stream type 4", {0x09, 0x30, 1, 4, 0, 0, 0, 16, 0, 0, 0, 0, 0, 7, 0, 0}, 0},
+    {"stream type 5", {0x09, 0x30, 1, 5, 0, 0, 0, 16, 0, 0, 0, 0, 0, 7, 0, 0}, 5},
+    {"unary total 20, header size 4", {0x09, 0x30, 0, 0, 0, 0, 0, 20, 0, 4, 0, 0, 0, 7, 0, 0}, 0},
+    {"unary total 20, header size 5", {0x09, 0x30, 0, 0, 0, 0, 0, 20, 0, 5, 0, 0, 0, 7, 0, 0}, 7},
+    {"stream, header size 1", {0x09, 0x30, 1, 2, 0, 0, 0, 20, 0, 1, 0, 0, 0, 7, 0, 0}, 7},
+    {"the listing's Feedback", {0x09, 0x30, 1, 3, 0, 0, 0, 19, 0, 0, 0, 0, 0, 5, 0, 0}, 0},
+    {"data type 2", {0x09, 0x30, 2, 1, 0, 0, 0, 16, 0, 0, 0, 0, 0, 7, 0, 0}, 4},
+    {"byte 15", {0x09, 0x30, 0, 0, 0, 0, 0, 16, 0, 0, 0, 0, 0, 7, 1, 0}, 8},
+    {"byte 16", {0x09, 0x30, 0, 0, 0, 0, 0, 16, 0, 0, 0, 0, 0, 7, 0, 1}, 8},
+    {"a unary frame's stream type", {0x09, 0x30, 0, 9, 0, 0, 0, 16, 0, 0, 0, 0, 0, 7, 0, 0}, 0},
+    {"every rule broken", {0x30, 0x09, 2, 9, 0, 0, 0, 0, 1, 1, 0, 0, 0, 7, 1, 1}, 3},
+    {"all but the magic", {0x09, 0x30, 2, 9, 0, 0, 0, 0, 1, 1, 0, 0, 0, 7, 1, 1}, 4},
+    {"from the stream type", {0x09, 0x30, 1, 9, 0, 0, 0, 0, 1, 1, 0, 0, 0, 7, 1, 1}, 5},
+    {"from the total", {0x09, 0x30, 1, 1, 0, 0, 0, 0, 1, 1, 0, 0, 0, 7, 1, 1}, 6},
+    {"from the header size", {0x09, 0x30, 1, 1, 0, 0, 0, 16, 1, 1, 0, 0, 0, 7, 1, 1}, 7},
+};
+
+int main(void)
+{
+    const size_t count = sizeof rows / sizeof rows[0];
+    uint8_t bytes[40];
+
+    for (size_t r = 0; r < count; r++) {
+        check(rows[r].what, rows[r].header, 16, rows[r].code);
+        check("the two checks", rows[r].header, 16, expected(rows[r].header, 16));
+    }
+
+    /* every value of every byte of every row */
+    for (size_t r = 0; r < count; r++)
+        for (size_t at = 0; at < 16; at++)
+            for (unsigned value = 0; value < 256; value++) {
+                memcpy(bytes, rows[r].header, 16);
+                bytes[at] = (uint8_t)value;
+                check("a byte changed", bytes, 16, expected(bytes, 16));
+            }
+
+    /* every length, of headers with other bytes behind them */
+    for (size_t r = 0; r < count; r++)
+        for (size_t len = 0; len <= 40; len++) {
+            memset(bytes, 0xA5, sizeof bytes);
+            memcpy(bytes, rows[r].header, 16);
+            check("a length", bytes, len, expected(bytes, len));
+        }
+
+    printf("header_check: %lu checks passed\n", checks);
+    return 0;
+}
