@@ -38,7 +38,10 @@ same-length : tie.Need-same-length
 same-length c = search needs
 
 returns : tie.Need-returns
-returns c = taken (c .before .before .before .before .before .before .before .args .deframer) (c .before .before .before .before .before .before .before .args .buffer .now) (c .before .before .before .before .before .before .before .args .piece .now) (c .before .before .before .before .before .before .before .args .from) (c .before .before .deframe .result) (omega arith) (c .before .before .deframe .ensures .0)
+returns c =
+    let given = c .before .before .before .before .before .before .before .args in
+    taken (given .deframer) (given .buffer .now) (given .piece .now) (given .from) (c .before .before .deframe .result) (omega arith)
+    (c .before .before .deframe .ensures .0)
 
 pub deframe-rest-spec : {M : Type 1} → statement M
 deframe-rest-spec =

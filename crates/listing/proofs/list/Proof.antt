@@ -8,7 +8,8 @@ use Rattle.listing.proofs.list.Statement.{statement}
 use Rattle.listing.proofs.list.Tie as tie
 
 abbrev Inv-loop : tie.InvT-loop
-Inv-loop piece₀ buffer₀ text₀ listing₀ reads₀ piece buffer text listing reads = (length piece ≡ length piece₀) × (length buffer ≡ length buffer₀) × (length text ≡ length text₀) × (listing .pending ≤ length text₀)
+Inv-loop piece₀ buffer₀ text₀ listing₀ reads₀ piece buffer text listing reads =
+    (length piece ≡ length piece₀) × (length buffer ≡ length buffer₀) × (length text ≡ length text₀) × (listing .pending ≤ length text₀)
 
 abbrev μ-loop : tie.MeasureT-loop
 μ-loop piece₀ buffer₀ text₀ listing₀ reads₀ piece buffer text listing reads = reads

@@ -26,7 +26,12 @@ list-step-requires : tie.Need-list-step-requires Inv-loop μ-loop
 list-step-requires c κs = (omega arith, (omega arith, omega arith))
 
 loop-less : tie.Need-loop-less Inv-loop μ-loop
-loop-less c = omega (arith, c .before .before .before .before .before .before .before .before .before .deframe-rest .ensures .1 (c .before .before .before .list-step .ensures .1 (c .if1 .left)))
+loop-less c =
+    omega (
+      arith,
+      c .before .before .before .before .before .before .before .before .before .deframe-rest .ensures .1
+          (c .before .before .before .list-step .ensures .1 (c .if1 .left)),
+    )
 
 loop-again : tie.Need-loop-again Inv-loop μ-loop
 loop-again c = (omega arith, omega arith, omega arith, omega arith)

@@ -27,13 +27,23 @@ slice-aggregate-put : tie.Need-slice-aggregate-put
 slice-aggregate-put c = search needs
 
 put-requires : tie.Need-put-requires
-put-requires c κs = omega (arith, digits-fit (c .before .before .before .before .before .args .n) _ (omega arith) (c .before .before .decimal .ensures .1 .0), c .before .before .decimal .ensures .0)
+put-requires c κs =
+    omega (
+      arith,
+      digits-fit (c .before .before .before .before .before .args .n) _ (omega arith) (c .before .before .decimal .ensures .1 .0),
+      c .before .before .decimal .ensures .0,
+    )
 
 same-length : tie.Need-same-length
 same-length c = search needs
 
 returns : tie.Need-returns
-returns c = omega (arith, digits-fit (c .before .before .before .before .before .before .before .before .args .n) _ (omega arith) (c .before .before .before .before .before .decimal .ensures .1 .0), c .before .before .before .before .before .decimal .ensures .0)
+returns c =
+    omega (
+      arith,
+      digits-fit (c .before .before .before .before .before .before .before .before .args .n) _ (omega arith) (c .before .before .before .before .before .decimal .ensures .1 .0),
+      c .before .before .before .before .before .decimal .ensures .0,
+    )
 
 pub number-spec : {M : Type 1} → statement M
 number-spec =

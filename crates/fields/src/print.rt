@@ -1,0 +1,189 @@
+// The fields of a string, walked by `wire::next_field` and printed as protoc prints them. The walk
+// takes all places, so nothing has to be known here of the places that it answers, and each loop
+// ends by a count of turns that no string uses up.
+use crate::text::print_byte;
+use crate::text::print_close;
+use crate::text::print_decimal;
+use crate::text::print_hex;
+use crate::text::print_name;
+use crate::text::print_open;
+use crate::text::print_quoted;
+use wire::Field;
+use wire::Skip;
+use wire::Tag;
+
+// protoc shows bytes as a message above this level; messages and groups count alike.
+const MESSAGE_LEVELS: u32 = 10;
+
+// Groups nest to 32, so a string that is not refused has no fields below this level.
+const LEVELS: u32 = 32;
+
+// 0 where the bytes of `s` up to `end` are fields, else the error code.
+pub(crate) fn error_code(s: &[u8], end: usize) -> u32 {
+    let mut at = 0;
+    let mut turns = usize::MAX;
+    while turns > 0 {
+        turns -= 1;
+        let field = wire::next_field(s, at, end);
+        match field {
+            Field::End => {
+                return 0;
+            }
+            Field::Refused(code) => {
+                return code;
+            }
+            _ => {
+                at = behind(field, at);
+            }
+        }
+    }
+    0
+}
+
+// Prints the fields of a part up to its end, or to what is no field: the part of a group takes its
+// end tag in, and in a string without error nothing else is no field.
+pub(crate) fn print_fields(level: u32, s: &[u8], start: usize, end: usize) {
+    let mut at = start;
+    let mut turns = usize::MAX;
+    while turns > 0 {
+        turns -= 1;
+        let field = wire::next_field(s, at, end);
+        let next = behind(field, at);
+        if next == at {
+            break;
+        }
+        let inner = fields_inside(field, level, s, at, end);
+        match inner {
+            Inner::Fields(number, from, to) => print_nested(level, number, s, from, to),
+            Inner::Nothing => print_value(level, field, s),
+        }
+        at = next;
+    }
+}
+
+// A field with fields inside, from `from` up to `to`.
+fn print_nested(level: u32, number: u32, s: &[u8], from: usize, to: usize) {
+    if level >= LEVELS {
+        return;
+    }
+    print_open(level, number);
+    print_fields(level + 1, s, from, to);
+    print_close(level);
+}
+
+// A field in one line.
+fn print_value(level: u32, field: Field, s: &[u8]) {
+    match field {
+        Field::Varint(number, value, _) => {
+            print_name(level, number);
+            print_decimal(value);
+        }
+        Field::Fixed64(number, value, _) => {
+            print_name(level, number);
+            print_hex(value, 16);
+        }
+        Field::Bytes(number, start, length) => {
+            print_name(level, number);
+            print_quoted(s, start, end_of(start, length));
+        }
+        Field::Fixed32(number, value, _) => {
+            print_name(level, number);
+            print_hex(value as u64, 8);
+        }
+        _ => {}
+    }
+    print_byte(b'\n');
+}
+
+// The fields inside a field: its number, where they start and where they end.
+enum Inner {
+    Fields(u32, usize, usize),
+    Nothing,
+}
+
+// A group has fields inside, and so have bytes that look like a message.
+fn fields_inside(field: Field, level: u32, s: &[u8], at: usize, end: usize) -> Inner {
+    match field {
+        Field::Group(number, next) => Inner::Fields(number, behind_tag(s, at, end), next),
+        Field::Bytes(number, start, length) => {
+            let stop = end_of(start, length);
+            if is_message(level, s, start, stop) {
+                Inner::Fields(number, start, stop)
+            } else {
+                Inner::Nothing
+            }
+        }
+        _ => Inner::Nothing,
+    }
+}
+
+// protoc's guess: some bytes, fields to their end, with no more groups nested than levels are left.
+fn is_message(level: u32, s: &[u8], start: usize, end: usize) -> bool {
+    if start == end {
+        return false;
+    }
+    if level >= MESSAGE_LEVELS {
+        return false;
+    }
+    is_fields(s, start, end, MESSAGE_LEVELS - level)
+}
+
+// Whether a part is fields to its end, with at most `depth` groups nested.
+fn is_fields(s: &[u8], start: usize, end: usize, depth: u32) -> bool {
+    let mut at = start;
+    let mut turns = usize::MAX;
+    while turns > 0 {
+        turns -= 1;
+        let tag = wire::read_tag(s, at, end);
+        match tag {
+            Tag::End => {
+                return true;
+            }
+            Tag::Refused(_) => {
+                return false;
+            }
+            Tag::Field(number, wire_type, next) => {
+                let skip = wire::skip_value(s, next, end, number, wire_type, depth);
+                match skip {
+                    Skip::Refused(_) => {
+                        return false;
+                    }
+                    Skip::Next(after) => {
+                        at = after;
+                    }
+                }
+            }
+        }
+    }
+    false
+}
+
+// The place behind a field; `at` where there is none, at the end or an error.
+fn behind(field: Field, at: usize) -> usize {
+    match field {
+        Field::End => at,
+        Field::Varint(_, _, next) => next,
+        Field::Fixed64(_, _, next) => next,
+        Field::Bytes(_, start, length) => end_of(start, length),
+        Field::Group(_, next) => next,
+        Field::Fixed32(_, _, next) => next,
+        Field::Refused(_) => at,
+    }
+}
+
+fn behind_tag(s: &[u8], at: usize, end: usize) -> usize {
+    let tag = wire::read_tag(s, at, end);
+    match tag {
+        Tag::Field(_, _, next) => next,
+        _ => at,
+    }
+}
+
+// Where bytes end. The sum fits wherever they lie in a slice.
+fn end_of(start: usize, length: usize) -> usize {
+    if length <= usize::MAX - start {
+        start + length
+    } else {
+        start
+    }
+}

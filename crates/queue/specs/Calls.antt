@@ -1,0 +1,70 @@
+-- Document 01, "Waiting jobs" and "Refusal numbers": what each call answers, and the whole queue after it.
+-- Assumes nothing.
+use Prim.Native.Nat.{ℕ}
+use mathlib.Core.Bool.{cond}
+use lib.Dec.{eqb}
+use lib.ListN.{replicate}
+use Rattle.queue.specs.declared.Job.{Job}
+use Rattle.queue.specs.declared.Queue.{Queue}
+use Rattle.queue.specs.declared.Added.{Added}
+use Rattle.queue.specs.declared.Removed.{Removed}
+use Rattle.queue.specs.Waiting.{capacity, zeroJob, waiting, jobAt, any, place, hasPair, samePair, late, invalid, earliest, filled, closedUp}
+
+-- the error codes, document 01's refusal numbers 21 to 26, as they stand in its table
+abbrev pub errorFull : ℕ
+errorFull = 21
+
+abbrev pub errorArrival : ℕ
+errorArrival = 22
+
+abbrev pub errorEmpty : ℕ
+errorEmpty = 23
+
+abbrev pub errorInvalid : ℕ
+errorInvalid = 24
+
+abbrev pub errorDuplicate : ℕ
+errorDuplicate = 25
+
+abbrev pub errorAbsent : ℕ
+errorAbsent = 26
+
+-- a queue in which nothing waits, all zero
+abbrev pub emptyQueue : Queue
+emptyQueue = record { jobs = replicate capacity zeroJob; count = 0 }
+
+-- "all others leave rows, output and list untouched"
+abbrev pub addError : Queue → ℕ → Added
+addError q n = record { queue = q; error = n }
+
+-- "List 24 first; add 22, 25, 21"; "21 is given exactly when 64 jobs wait and none of 24, 22, 25 applies". "A clock that goes
+-- back is no fault": no ground compares arrivals.
+unfoldable pub added : Queue → Job → Added
+added q j =
+    cond (invalid q) (addError q errorInvalid)
+    (cond (late j) (addError q errorArrival)
+    (cond (any (samePair j) (waiting q)) (addError q errorDuplicate)
+    (cond (eqb (q .count) capacity) (addError q errorFull)
+    (record { queue = filled q j; error = 0 }))))
+
+-- "A refused record or job is all zero", and the list is untouched
+abbrev pub removeError : Queue → ℕ → Removed
+removeError q n = record { queue = q; job = zeroJob; error = n }
+
+-- take and cancel "give the job removed"
+abbrev pub removedAt : Queue → ℕ → Removed
+removedAt q at = record { queue = closedUp q at; job = jobAt (waiting q) at; error = 0 }
+
+-- "Take removes the earliest due"; 24, then 23 where "nothing waits"
+unfoldable pub taken : Queue → Removed
+taken q =
+    cond (invalid q) (removeError q errorInvalid)
+    (cond (eqb (q .count) 0) (removeError q errorEmpty)
+    (removedAt q (earliest (waiting q))))
+
+-- "Cancel removes the named pair"; 24, then 26 where "that pair doesn't wait"
+unfoldable pub cancelled : Queue → ℕ → ℕ → Removed
+cancelled q c r =
+    cond (invalid q) (removeError q errorInvalid)
+    (cond (any (hasPair c r) (waiting q)) (removedAt q (place (hasPair c r) (waiting q)))
+    (removeError q errorAbsent))

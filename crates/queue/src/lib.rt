@@ -1,0 +1,130 @@
+// The queue of waiting jobs, by value (document 01, "Waiting jobs"): a queue goes in and comes back beside the answer.
+// An answer carries an error code, document 01's refusal number, and 0 where there is none.
+ghost use mathlib.Core.Path.{_≡_};
+ghost use Rattle.queue.specs.Calls.{emptyQueue, added, taken, cancelled};
+
+mod due;
+mod pairs;
+mod removal;
+mod validity;
+
+// The most jobs that a queue holds.
+pub const CAPACITY: usize = 64;
+
+// The latest arrival that a waiting job may have: 2^62.
+pub const LATEST_ARRIVAL: u64 = 4611686018427387904;
+
+// 64 jobs wait.
+pub const ERROR_FULL: u32 = 21;
+// The arrival is above 2^62.
+pub const ERROR_ARRIVAL: u32 = 22;
+// Nothing waits.
+pub const ERROR_EMPTY: u32 = 23;
+// The queue itself is invalid.
+pub const ERROR_INVALID: u32 = 24;
+// The job's pair waits already.
+pub const ERROR_DUPLICATE: u32 = 25;
+// The named pair doesn't wait.
+pub const ERROR_ABSENT: u32 = 26;
+
+// A job, named by its pair of connection number and request id. A timeout of 0 is no deadline. Times are in milliseconds.
+pub struct Job {
+    pub connection: u32,
+    pub request: u32,
+    pub timeout: u32,
+    pub arrival: u64,
+}
+
+// The first `count` jobs wait, in order of acceptance.
+pub struct Queue {
+    pub jobs: [Job; 64],
+    pub count: usize,
+}
+
+// What `add` answers.
+pub struct Added {
+    pub queue: Queue,
+    pub error: u32,
+}
+
+// What `take` and `cancel` answer, with the job removed.
+pub struct Removed {
+    pub queue: Queue,
+    pub job: Job,
+    pub error: u32,
+}
+
+// A queue in which nothing waits.
+pub fn empty() -> Queue
+    ensures { λ r. ⌜ r ≡ emptyQueue ⌝ }
+{
+    Queue {
+        jobs: [removal::zero_job(); 64],
+        count: 0,
+    }
+}
+
+// Puts a job behind those that wait.
+pub fn add(q: Queue, j: Job) -> Added
+    ensures { λ r. ⌜ r ≡ added q j ⌝ }
+{
+    if validity::invalid(q) {
+        return Added {
+            queue: q,
+            error: ERROR_INVALID,
+        };
+    }
+    if LATEST_ARRIVAL < j.arrival {
+        return Added {
+            queue: q,
+            error: ERROR_ARRIVAL,
+        };
+    }
+    let n = q.count;
+    if pairs::find(q, 0, j.connection, j.request) < n {
+        return Added {
+            queue: q,
+            error: ERROR_DUPLICATE,
+        };
+    }
+    if n == CAPACITY {
+        return Added {
+            queue: q,
+            error: ERROR_FULL,
+        };
+    }
+    let mut jobs = q.jobs;
+    jobs[n] = j;
+    Added {
+        queue: Queue { jobs, count: n + 1 },
+        error: 0,
+    }
+}
+
+// Removes the job that is due first, of several the one accepted first.
+pub fn take(q: Queue) -> Removed
+    ensures { λ r. ⌜ r ≡ taken q ⌝ }
+{
+    if validity::invalid(q) {
+        return removal::fail(q, ERROR_INVALID);
+    }
+    if q.count == 0 {
+        return removal::fail(q, ERROR_EMPTY);
+    }
+    removal::remove(q, due::earliest(q))
+}
+
+// Removes the job of a pair.
+pub fn cancel(q: Queue, connection: u32, request: u32) -> Removed
+    ensures { λ r. ⌜ r ≡ cancelled q connection request ⌝ }
+{
+    if validity::invalid(q) {
+        return removal::fail(q, ERROR_INVALID);
+    }
+    let n = q.count;
+    let at = pairs::find(q, 0, connection, request);
+    if at < n {
+        return removal::remove(q, at);
+    }
+    removal::fail(q, ERROR_ABSENT)
+}

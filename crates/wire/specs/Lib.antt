@@ -1,0 +1,9 @@
+-- What the contracts of `wire` cite, in the order of document 01, "Fields (Protobuf encoding)".
+pub mod Errors
+pub mod Part
+pub mod Varint
+pub mod Tags
+pub mod Skipping
+pub mod Fields
+pub mod Writing
+pub mod Placed

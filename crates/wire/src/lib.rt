@@ -1,0 +1,312 @@
+// Protobuf fields: varints, tags, lengths, fields that are read, skipped and written. Document 01,
+// "Fields (Protobuf encoding)"; an error code is its refusal number.
+//
+// A reader is given a slice `s` and the places `at` and `end` in it. Its part is the bytes of `s`
+// from `at` up to `end` that exist: none where `at` is past the end of the slice or not before `end`,
+// and up to the slice's end where `end` is past it. It reads nothing else. Every function takes all
+// arguments and ends.
+mod contents;
+mod parts;
+mod skipping;
+mod storing;
+
+use contents::content_at;
+use parts::part_end;
+use parts::wide;
+use skipping::skip_bytes;
+use skipping::skip_fixed;
+use skipping::skip_varint;
+use storing::has_room;
+use storing::put_content;
+use storing::put_varint;
+ghost use mathlib.Core.Path.{_≡_};
+ghost use Rattle.wire.specs.Part.{part};
+ghost use Rattle.wire.specs.Varint.{got, varint, lowU32, lowI32};
+ghost use Rattle.wire.specs.Tags.{split, tag, lengthPrefix};
+ghost use Rattle.wire.specs.Skipping.{skipValue, skipGroup};
+ghost use Rattle.wire.specs.Fields.{nextField};
+ghost use Rattle.wire.specs.Writing.{putVarint, putTag, putBytes, signExtended, stored};
+ghost use Rattle.wire.specs.Placed.{varintAt, tagAt, lengthAt, skipAt, fieldAt, writtenAt};
+ghost use lib.ListN.{length};
+
+// 10: "varint bad or cut off"
+pub const BAD_VARINT: u32 = 10;
+// 11: "tag bad; group end stray or of another number"
+pub const BAD_TAG: u32 = 11;
+// 12: "a length, fixed value or open group passes the end of its part"
+pub const PAST_END: u32 = 12;
+// 13: "33rd nested group"
+pub const TOO_DEEP: u32 = 13;
+
+// A varint's value and the next place; or the error code.
+pub enum Varint {
+    Value(u64, usize),
+    Refused(u32),
+}
+
+// A tag's field number, its wire type and the next place; the part is at its end; or the error code.
+pub enum Tag {
+    Field(u32, u32, usize),
+    End,
+    Refused(u32),
+}
+
+// Where the bytes that a length announces start, and how many they are; or the error code.
+pub enum Length {
+    Bytes(usize, usize),
+    Refused(u32),
+}
+
+// The place behind what was skipped; or the error code.
+pub enum Skip {
+    Next(usize),
+    Refused(u32),
+}
+
+// A field: its number first, then its value and the next place. Of bytes the start and the length:
+// the next place is their sum. A group is only skipped.
+pub enum Field {
+    End,
+    Varint(u32, u64, usize),
+    Fixed64(u32, u64, usize),
+    Bytes(u32, usize, usize),
+    Group(u32, usize),
+    Fixed32(u32, u32, usize),
+    Refused(u32),
+}
+
+// The next place of the output; or it has no room, and is unchanged.
+pub enum Written {
+    Next(usize),
+    Full,
+}
+
+// The varint at the start of the part.
+pub fn read_varint(s: &[u8], at: usize, end: usize) -> Varint
+    ensures { λ r. ⌜ r ≡ varintAt at (varint (part (now (s .entry)) at end)) ⌝ }
+{
+    let stop = part_end(s, end);
+    let mut value: u64 = 0;
+    let mut shift: u32 = 0;
+    let mut i = at;
+    loop {
+        if i >= stop {
+            break Varint::Refused(BAD_VARINT);
+        }
+        let b = wide(s[i]);
+        i += 1;
+        if shift == 63 {
+            if b > 1 {
+                break Varint::Refused(BAD_VARINT);
+            }
+        }
+        value = value | ((b & 127) << shift);
+        if b < 128 {
+            break Varint::Value(value, i);
+        }
+        shift += 7;
+    }
+}
+
+// The tag at the start of the part.
+pub fn read_tag(s: &[u8], at: usize, end: usize) -> Tag
+    ensures { λ r. ⌜ r ≡ tagAt at (tag (part (now (s .entry)) at end)) ⌝ }
+{
+    if part_end(s, end) <= at {
+        return Tag::End;
+    }
+    let v = read_varint(s, at, end);
+    match v {
+        Varint::Refused(code) => Tag::Refused(code),
+        Varint::Value(value, next) => split_tag(value, next),
+    }
+}
+
+// The tag of this value, which ends before the place `next`.
+fn split_tag(value: u64, next: usize) -> Tag
+    ensures { λ r. ⌜ r ≡ tagAt next (split (got value 0)) ⌝ }
+{
+    if value <= 4294967295 {
+        let number = value >> 3;
+        let wire_type = value & 7;
+        if 0 < number {
+            if wire_type < 6 {
+                return Tag::Field(number as u32, wire_type as u32, next);
+            }
+        }
+    }
+    Tag::Refused(BAD_TAG)
+}
+
+// The length at the start of the part, and the bytes behind it.
+pub fn read_length(s: &[u8], at: usize, end: usize) -> Length
+    ensures { λ r. ⌜ r ≡ lengthAt at (lengthPrefix (part (now (s .entry)) at end)) ⌝ }
+{
+    let stop = part_end(s, end);
+    let v = read_varint(s, at, end);
+    match v {
+        Varint::Refused(code) => Length::Refused(code),
+        Varint::Value(value, start) => {
+            let size = value as usize;
+            if size <= stop - start {
+                Length::Bytes(start, size)
+            } else {
+                Length::Refused(PAST_END)
+            }
+        }
+    }
+}
+
+// Skips the value at the start of the part, which stands behind a tag of this field number and wire
+// type. `depth` more groups may be opened: 32 for a field of a message. A wire type that has no value
+// is a bad tag: 4, a stray group end, and all from 6. The calls nest once for each open group, so a
+// caller that passes more than 32 answers for the stack.
+pub fn skip_value(s: &[u8], at: usize, end: usize, number: u32, wire_type: u32, depth: u32) -> Skip
+    ensures { λ r. ⌜ r ≡ skipAt at (skipValue number «wire_type» depth (part (now (s .entry)) at end)) ⌝ }
+{
+    if wire_type == 0 {
+        return skip_varint(s, at, end);
+    }
+    if wire_type == 1 {
+        return skip_fixed(s, at, end, 8);
+    }
+    if wire_type == 2 {
+        return skip_bytes(s, at, end);
+    }
+    if wire_type == 3 {
+        if depth == 0 {
+            return Skip::Refused(TOO_DEEP);
+        }
+        return skip_group(s, at, end, number, depth - 1);
+    }
+    if wire_type == 5 {
+        return skip_fixed(s, at, end, 4);
+    }
+    Skip::Refused(BAD_TAG)
+}
+
+// Skips what is left of an opened group of this field number, its end included.
+pub fn skip_group(s: &[u8], at: usize, end: usize, number: u32, depth: u32) -> Skip
+    ensures { λ r. ⌜ r ≡ skipAt at (skipGroup number depth (part (now (s .entry)) at end)) ⌝ }
+{
+    let mut i = at;
+    loop {
+        let t = read_tag(s, i, end);
+        match t {
+            Tag::End => {
+                break Skip::Refused(PAST_END);
+            }
+            Tag::Refused(code) => {
+                break Skip::Refused(code);
+            }
+            Tag::Field(inner, wire_type, next) => {
+                if wire_type == 4 {
+                    if inner == number {
+                        break Skip::Next(next);
+                    }
+                    break Skip::Refused(BAD_TAG);
+                }
+                let k = skip_value(s, next, end, inner, wire_type, depth);
+                match k {
+                    Skip::Refused(code) => {
+                        break Skip::Refused(code);
+                    }
+                    Skip::Next(after) => {
+                        i = after;
+                    }
+                }
+            }
+        }
+    }
+}
+
+// The field at the start of the part. A group is skipped, with at most 32 groups open.
+pub fn next_field(s: &[u8], at: usize, end: usize) -> Field
+    ensures { λ r. ⌜ r ≡ fieldAt at (nextField (part (now (s .entry)) at end)) ⌝ }
+{
+    let t = read_tag(s, at, end);
+    match t {
+        Tag::End => Field::End,
+        Tag::Refused(code) => Field::Refused(code),
+        Tag::Field(number, wire_type, start) => content_at(s, start, end, number, wire_type),
+    }
+}
+
+// The value of a uint32 field: "uint32 takes the low 32 bits".
+pub fn low_u32(v: u64) -> u32
+    ensures { λ r. ⌜ r ≡ lowU32 v ⌝ }
+{
+    (v & 4294967295) as u32
+}
+
+// The value of an int32 field: "int32 the same as two's complement".
+pub fn low_i32(v: u64) -> i32
+    ensures { λ r. ⌜ r ≡ lowI32 v ⌝ }
+{
+    let low = low_u32(v);
+    if low < 2147483648 {
+        low as i32
+    } else {
+        -1 - ((4294967295 - low) as i32)
+    }
+}
+
+// What an int32 is written as: "A negative int32 is written in ten bytes".
+pub fn sign_extend(v: i32) -> u64
+    ensures { λ r. ⌜ r ≡ signExtended v ⌝ }
+{
+    if 0 <= v {
+        v as u64
+    } else {
+        18446744073709551615 - ((-1 - v) as u64)
+    }
+}
+
+// How many bytes the shortest varint of `v` takes: 1 to 10.
+pub fn varint_len(v: u64) -> usize
+    ensures { λ r. ⌜ r ≡ length (putVarint v) ⌝ }
+{
+    let mut rest = v;
+    let mut n: usize = 1;
+    while 128 <= rest {
+        rest = rest >> 7;
+        n += 1;
+    }
+    n
+}
+
+// Writes `v` as its shortest varint from the place `at` of the output.
+pub fn write_varint(v: u64, out: &mut [u8], at: usize) -> Written
+    ensures { λ r. ⌜ (r ≡ writtenAt (now (out .entry)) at (putVarint v)) × (now (out .exit) ≡ stored (now (out .entry)) at (putVarint v)) ⌝ }
+{
+    if has_room(out, at, varint_len(v)) {
+        Written::Next(put_varint(v, out, at))
+    } else {
+        Written::Full
+    }
+}
+
+// Writes a tag. Every number and wire type is taken: the value is number * 8 + wire_type, which is a
+// good tag from number 1 to 2^29 - 1 with a wire type up to 5.
+pub fn write_tag(number: u32, wire_type: u32, out: &mut [u8], at: usize) -> Written
+    ensures { λ r. ⌜ (r ≡ writtenAt (now (out .entry)) at (putTag number «wire_type»)) × (now (out .exit) ≡ stored (now (out .entry)) at (putTag number «wire_type»)) ⌝ }
+{
+    write_varint((number as u64) * 8 + (wire_type as u64), out, at)
+}
+
+// Writes a field of bytes: its tag, the length of its content, the content.
+pub fn write_bytes(number: u32, content: &[u8], out: &mut [u8], at: usize) -> Written
+    ensures { λ r. ⌜ (r ≡ writtenAt (now (out .entry)) at (putBytes number (now (content .entry)))) × (now (out .exit) ≡ stored (now (out .entry)) at (putBytes number (now (content .entry)))) ⌝ }
+{
+    let tag = (number as u64) * 8 + 2;
+    let size = content.len() as u64;
+    let head = varint_len(tag) + varint_len(size);
+    if has_room(out, at, head) {
+        if has_room(out, at + head, content.len()) {
+            let behind_tag = put_varint(tag, out, at);
+            let start = put_varint(size, out, behind_tag);
+            return Written::Next(put_content(content, out, start));
+        }
+    }
+    Written::Full
+}
