@@ -20,7 +20,9 @@ header data-type stream-type high middle low size =
 abbrev feedback : List ℕ
 feedback = 0x09 ∷ 0x30 ∷ 0x01 ∷ 0x03 ∷ 0 ∷ 0 ∷ 0 ∷ 0x13 ∷ 0 ∷ 0 ∷ 0 ∷ 0 ∷ 0 ∷ 0x05 ∷ 0 ∷ 0 ∷ 0x08 ∷ 0xAC ∷ 0x02 ∷ 0x09 ∷ []
 
-pub examples :
+-- the rows of the table that are about headers and streams
+abbrev pub Rows : Type 0
+Rows =
     -- empty stream: no frame, clean
     (uncut [] ≡ stops end.Clean)
     -- unary, id 7
@@ -45,6 +47,8 @@ pub examples :
     × (uncut (0x30 ∷ []) ≡ stops (end.Short 1))
     -- the listing's example
     × (uncut feedback ≡ before (take 19 feedback) (stops (end.Short 1)))
+
+pub examples : Rows
 unfolding be16Of be32Of totalOf headerSizeOf idOf magicOk dataTypeOk streamTypeOk totalOk headerSizeOk reservedOk faultOf headerError typeOf parsed uncutIn uncut
 examples = (refl, refl, refl, refl, refl, refl, refl, refl, refl, refl, refl, refl, refl, refl, refl)
 

@@ -15,9 +15,13 @@ job id timeout = record { connection = 1; request = id; timeout = timeout; arriv
 abbrev pub three : List Call
 three = addJob (job 1 0) ∷ addJob (job 2 4000000000) ∷ addJob (job 3 600000) ∷ takeJob ∷ takeJob ∷ takeJob ∷ takeJob ∷ []
 
-pub taken-in-order :
+-- the row of the table that is about waiting jobs
+abbrev pub Rows : Type 0
+Rows =
     events emptyQueue three
     ≡ accepted (job 1 0) ∷ accepted (job 2 4000000000) ∷ accepted (job 3 600000)
     ∷ removed (job 3 600000) ∷ removed (job 2 4000000000) ∷ removed (job 1 0) ∷ failed 23 ∷ []
+
+pub taken-in-order : Rows
 unfolding added taken invalid earliest closedUp due
 taken-in-order = refl

@@ -11,3 +11,4 @@ pub mod Order
 pub mod Outstanding
 pub mod History
 pub mod Examples
+pub mod Table

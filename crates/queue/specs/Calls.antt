@@ -4,11 +4,17 @@ use Prim.Native.Nat.{ℕ}
 use mathlib.Core.Bool.{cond}
 use lib.Dec.{eqb}
 use lib.ListN.{replicate}
+use Rattle.message.specs.declared.Request.{Request}
 use Rattle.queue.specs.declared.Job.{Job}
 use Rattle.queue.specs.declared.Queue.{Queue}
 use Rattle.queue.specs.declared.Added.{Added}
 use Rattle.queue.specs.declared.Removed.{Removed}
 use Rattle.queue.specs.Waiting.{capacity, zeroJob, waiting, jobAt, any, place, hasPair, samePair, late, invalid, earliest, filled, closedUp}
+
+-- "The id in bytes 11-14 is the one to answer with; the message's own request_id is only handed over."
+abbrev pub jobOf : Request → (connection arrival : ℕ) → Job
+jobOf request connection arrival =
+    record { connection = connection; request = request .id; timeout = request .timeout; arrival = arrival }
 
 -- the error codes, document 01's refusal numbers 21 to 26, as they stand in its table
 abbrev pub errorFull : ℕ

@@ -1,12 +1,13 @@
 // The queue of waiting jobs, by value (document 01, "Waiting jobs"): a queue goes in and comes back beside the answer.
 // An answer carries an error code, document 01's refusal number, and 0 where there is none.
-ghost use mathlib.Core.Path.{_≡_};
-ghost use Rattle.queue.specs.Calls.{emptyQueue, added, taken, cancelled};
-
 mod due;
 mod pairs;
 mod removal;
 mod validity;
+
+use message::Request;
+ghost use mathlib.Core.Path.{_≡_};
+ghost use Rattle.queue.specs.Calls.{jobOf, emptyQueue, added, taken, cancelled};
 
 // The most jobs that a queue holds.
 pub const CAPACITY: usize = 64;
@@ -52,6 +53,19 @@ pub struct Removed {
     pub queue: Queue,
     pub job: Job,
     pub error: u32,
+}
+
+// The job of a request that was read, which came on a connection at a time. Its request id is that of the fixed header, the
+// one to answer with.
+pub fn job_of(request: Request, connection: u32, arrival: u64) -> Job
+    ensures { λ r. ⌜ r ≡ jobOf request connection arrival ⌝ }
+{
+    Job {
+        connection,
+        request: request.id,
+        timeout: request.timeout,
+        arrival,
+    }
 }
 
 // A queue in which nothing waits.

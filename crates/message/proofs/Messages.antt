@@ -1,0 +1,127 @@
+-- From what the decoder answers of a whole frame to what the reading says
+use Prim.Native.Nat.{ℕ, _+_, _-_, _≤_, _<_}
+use mathlib.Core.Path.{_≡_, refl, sym, ap, subst, _∙_}
+use mathlib.Core.List.{List, [], _++_}
+use native.Mathlib.Omega.{arith}
+use borrow.Author.Tests.{le-leb, lt-leb}
+use lib.ListN.{length, drop, replicate, length-drop}
+use Rattle.frame.specs.Header.{headerSizeOf, idOf}
+use Rattle.wire.specs.Part.{part}
+use Rattle.message.specs.Schema.{Schema}
+use Rattle.message.specs.Fields.{Row, State, Result, ok, refused, readMessage}
+use Rattle.message.specs.Records.{schemaOf, recordOf, attachmentSizeOf}
+use Rattle.message.specs.Frames.{Reading, headerOf, bodyOf, lastOf, rowNumbers, laidOut, untouched, finished, answered, readFrame}
+use Rattle.message.specs.Decoding.{schemaAt, Read, Failed, Decodes}
+use Rattle.message.specs.Parts.{PartsOf, noParts, bodyAt, Whole}
+use Rattle.message.specs.declared.Kind.{Kind}
+use Rattle.message.specs.declared.Record.{Record}
+use Rattle.message.specs.declared.decode.Decoded.{Decoded}
+use Rattle.message.specs.declared.frames.Parts.{Parts}
+use Rattle.message.proofs.Readings.{its-message}
+use Rattle.message.proofs.PartPlaces.{part-rest, frame-size, within, header-part, body-rest, last-rest}
+use Rattle.message.proofs.RowLaws.{drop-laid}
+
+-- ---- a refusal
+none : (code : ℕ) (f numbers : List ℕ) → PartsOf (untouched code numbers) f (noParts code) numbers
+none code f numbers = record { answer-is = refl; header-is = refl; body-is = refl; attachment-is = refl; rows-are = refl }
+
+pub refusal : {x : Reading} {f numbers : List ℕ} {p : Parts} {code : ℕ} → x ≡ untouched code numbers → p ≡ noParts code → PartsOf x f p numbers
+refusal {f} {numbers} {p} {code} e g =
+    subst (λ (x : Reading). PartsOf x f p numbers) (sym e) (subst (λ (p : Parts). PartsOf (untouched code numbers) f p numbers) (sym g) (none code f numbers))
+
+-- ---- what the decoder's answer tells of the reading x of a message
+failed : (x : Result) (d : Decoded) (numbers lent : List ℕ) → Decodes x d numbers lent → (d .error ≡ 0 → ⊥)
+    → (x ≡ refused (d .error)) × (numbers ≡ laidOut [] lent)
+failed (ok st) d numbers lent r n = absurd (n (r .no-error))
+failed (refused code) d numbers lent r n = (ap refused (sym (r .code-is)), r .cleared)
+
+succeeded : (x : Result) (d : Decoded) (numbers lent : List ℕ) → Decodes x d numbers lent → d .error ≡ 0
+    → (st : State) × (x ≡ ok st) × Read st d numbers lent
+succeeded (ok st) d numbers lent r e = (st, refl, r)
+succeeded (refused code) d numbers lent r e = absurd (omega (arith, r .code-is, r .some-code))
+
+-- rows that are cleared again
+laid-again : (rows : List Row) (lent : List ℕ) → length rows ≤ 64 → laidOut [] (laidOut rows lent) ≡ laidOut [] lent
+laid-again rows lent few = ap (λ (x : List ℕ). replicate rowNumbers 0 ++ x) (drop-laid rows lent few)
+
+-- a message that was read, with a body that holds its attachment, and with one that does not
+module _ (kind : Kind) (f lent : List ℕ) (st : State) where
+  attached : attachmentSizeOf kind (st .slots) ≤ length (bodyOf kind f)
+      → answered kind f lent (ok st) ≡ record {
+        answer = recordOf kind (idOf f) (st .slots) (length (st .rows));
+        header = headerOf kind f;
+        body = bodyOf kind f;
+        attachment = lastOf (attachmentSizeOf kind (st .slots)) (bodyOf kind f);
+        rows = laidOut (st .rows) lent;
+      }
+  unfolding answered finished
+  attached h = rw (le-leb (attachmentSizeOf kind (st .slots)) (length (bodyOf kind f)) h)
+
+  too-large : length (bodyOf kind f) < attachmentSizeOf kind (st .slots) → answered kind f lent (ok st) ≡ untouched 15 (laidOut [] lent)
+  unfolding answered finished
+  too-large h = rw (lt-leb (attachmentSizeOf kind (st .slots)) (length (bodyOf kind f)) h)
+
+same-record : (kind : Kind) {id id′ rows rows′ : ℕ} {slots slots′ : List ℕ} → id ≡ id′ → slots ≡ slots′ → rows ≡ rows′
+    → recordOf kind id slots rows ≡ recordOf kind id′ slots′ rows′
+same-record kind e g h = cc
+
+-- ---- the reading of a whole frame: the code's body place, schema number, and what the decoder answered
+module _ (kind : Kind) (f lent : List ℕ) (size id body n : ℕ) (d : Decoded) (numbers : List ℕ)
+    (rows : rowNumbers ≤ length lent) (whole : Whole kind f size id) (body-is : body ≡ bodyAt kind size (length f)) (schema-is : schemaAt n ≡ schemaOf kind)
+    (decoded : Decodes (readMessage f (schemaAt n) 16 (part f 16 body)) d numbers lent) where
+  place : body ≡ bodyAt kind (headerSizeOf f) (length f)
+  place = body-is ∙ ap (λ (m : ℕ). bodyAt kind m (length f)) (whole .size-is)
+
+  head : part f 16 body ≡ headerOf kind f
+  head = rw place (header-part kind f)
+
+  rest : bodyOf kind f ≡ drop body f
+  rest = rw place (body-rest kind f)
+
+  body-length : length (bodyOf kind f) ≡ length f - body
+  body-length = ap length rest ∙ length-drop body f
+
+  result : Result
+  result = readMessage f (schemaOf kind) 16 (headerOf kind f)
+
+  its : Decodes result d numbers lent
+  unfolding result
+  its = rw (← schema-is, ← head) decoded
+
+  answer : readFrame kind f lent ≡ answered kind f lent result
+  unfolding result
+  answer = its-message kind f lent rows (frame-size kind f size id whole .0) (whole .good) (whole .total-is) (whole .fits)
+
+  pub few-decoded : d .error ≡ 0 → d .slots .rows ≤ 64
+  few-decoded e = let (st, x, r) = succeeded result d numbers lent its e in omega (arith, r .rows-are, r .few)
+
+  pub fields-refused : {p : Parts} → (d .error ≡ 0 → ⊥) → p ≡ noParts (d .error) → PartsOf (readFrame kind f lent) f p numbers
+  unfolding answered
+  fields-refused n g =
+      let (e, cleared) = failed result d numbers lent its n in
+      refusal (answer ∙ ap (answered kind f lent) e ∙ ap (untouched (d .error)) (sym cleared)) g
+
+  pub attachment-refused : {p : Parts} {a : ℕ} {last : List ℕ} → d .error ≡ 0 → a ≡ attachmentSizeOf kind (d .slots .values) → length f - body < a
+      → last ≡ laidOut [] numbers → p ≡ noParts 15 → PartsOf (readFrame kind f lent) f p last
+  attachment-refused {a} e is-a large last g =
+      let (st, x, r) = succeeded result d numbers lent its e in
+      let a-is : a ≡ attachmentSizeOf kind (st .slots) = is-a ∙ ap (attachmentSizeOf kind) (r .values-are) in
+      let same = last ∙ ap (laidOut []) (r .laid) ∙ laid-again (st .rows) lent (r .few) in
+      refusal
+      (answer ∙ ap (answered kind f lent) x ∙ too-large kind f lent st (omega (arith, body-length, a-is)) ∙ ap (untouched 15) (sym same))
+      g
+
+  pub message-read : {r : Record} {a : ℕ} → d .error ≡ 0 → a ≡ attachmentSizeOf kind (d .slots .values) → a ≤ length f - body
+      → r ≡ recordOf kind id (d .slots .values) (d .slots .rows)
+      → PartsOf (readFrame kind f lent) f (record { answer = r; places = record { header = 16; body = body; attachment = length f - a; end = length f } }) numbers
+  message-read {a} e is-a fits is-r =
+      let (st, x, k) = succeeded result d numbers lent its e in
+      let a-is : a ≡ attachmentSizeOf kind (st .slots) = is-a ∙ ap (attachmentSizeOf kind) (k .values-are) in
+      let all = answer ∙ ap (answered kind f lent) x ∙ attached kind f lent st (omega (arith, body-length, a-is)) in
+      rw all (record {
+        answer-is = is-r ∙ same-record kind (whole .id-is) (k .values-are) (k .rows-are);
+        header-is = head;
+        body-is = part-rest f body ∙ sym rest;
+        attachment-is = last-rest f body a (within kind f size id whole body body-is .1) fits ∙ rw (a-is, rest);
+        rows-are = k .laid;
+      })

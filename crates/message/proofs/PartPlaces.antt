@@ -1,0 +1,68 @@
+-- Where the parts of a whole frame stand
+use Prim.Native.Nat.{ℕ, _+_, _-_, _≤_}
+use mathlib.Core.Path.{_≡_, refl, sym, ap, _∙_}
+use mathlib.Core.List.{List, []}
+use native.Mathlib.Omega.{arith}
+use lib.ListN.{length, take, drop, length-drop, drop-of-length-le}
+use lib.Seq.{take-all, drop-drop, drop-length}
+use Rattle.frame.specs.Header.{maxFrame, totalOf, headerSizeOf}
+use Rattle.wire.specs.Part.{part}
+use Rattle.message.specs.Frames.{headerOf, bodyOf, lastOf}
+use Rattle.message.specs.Parts.{bodyAt, Whole}
+use Rattle.message.specs.declared.Kind.{Kind}
+use Rattle.message.specs.declared.Kind.the-variants as kinds
+use Rattle.message.proofs.Headers.{good-size, good-whole}
+
+-- up to the end of the frame, a part is all that is left
+pub part-rest : (f : List ℕ) (at : ℕ) → part f at (length f) ≡ drop at f
+part-rest f at = take-all (length f - at) (drop at f) (omega (arith, length-drop at f))
+
+pub part-to-end : (f : List ℕ) (at end : ℕ) → length f ≤ end → part f at (length f) ≡ part f at end
+part-to-end f at end h = part-rest f at ∙ sym (take-all (end - at) (drop at f) (omega (arith, length-drop at f)))
+
+module _ (kind : Kind) (f : List ℕ) (size id : ℕ) (whole : Whole kind f size id) where
+  pub header-size : 16 + size ≤ length f
+  header-size = omega (arith, whole .size-is, whole .total-is, good-size f (whole .good), good-whole f (whole .good))
+
+  pub frame-size : (16 ≤ length f) × (length f ≤ maxFrame)
+  frame-size = omega (arith, whole .total-is, good-whole f (whole .good))
+
+-- the header ends, and the body starts, within the frame
+body-within : (kind : Kind) (size n : ℕ) → 16 + size ≤ n → (16 ≤ bodyAt kind size n) × (bodyAt kind size n ≤ n)
+unfolding bodyAt
+body-within kinds.Request size n h = omega arith
+body-within kinds.Response size n h = omega arith
+body-within kinds.Init size n h = omega arith
+body-within kinds.Data size n h = omega arith
+body-within kinds.Feedback size n h = omega arith
+body-within kinds.Close size n h = omega arith
+
+pub within : (kind : Kind) (f : List ℕ) (size id : ℕ) → Whole kind f size id → (body : ℕ) → body ≡ bodyAt kind size (length f)
+    → (16 ≤ body) × (body ≤ length f)
+within kind f size id whole body e = rw e (body-within kind size (length f) (header-size kind f size id whole))
+
+-- the header up to the body
+pub header-part : (kind : Kind) (f : List ℕ) → part f 16 (bodyAt kind (headerSizeOf f) (length f)) ≡ headerOf kind f
+unfolding bodyAt headerOf
+header-part kinds.Request f = let e : 16 + headerSizeOf f - 16 ≡ headerSizeOf f = omega arith in rw e
+header-part kinds.Response f = let e : 16 + headerSizeOf f - 16 ≡ headerSizeOf f = omega arith in rw e
+header-part kinds.Init f = part-rest f 16
+header-part kinds.Data f = refl
+header-part kinds.Feedback f = part-rest f 16
+header-part kinds.Close f = part-rest f 16
+
+-- the body up to the end
+pub body-rest : (kind : Kind) (f : List ℕ) → bodyOf kind f ≡ drop (bodyAt kind (headerSizeOf f) (length f)) f
+unfolding bodyAt bodyOf
+body-rest kinds.Request f = refl
+body-rest kinds.Response f = refl
+body-rest kinds.Init f = sym (drop-length f)
+body-rest kinds.Data f = refl
+body-rest kinds.Feedback f = sym (drop-length f)
+body-rest kinds.Close f = sym (drop-length f)
+
+-- the attachment up to the end
+pub last-rest : (f : List ℕ) (body n : ℕ) → body ≤ length f → n ≤ length f - body → part f (length f - n) (length f) ≡ lastOf n (drop body f)
+last-rest f body n h k =
+    let e : body + (length (drop body f) - n) ≡ length f - n = omega (arith, length-drop body f) in
+    part-rest f (length f - n) ∙ ap (λ (m : ℕ). drop m f) (sym e) ∙ sym (drop-drop (length (drop body f) - n) body f)

@@ -1,0 +1,105 @@
+-- Document 01, "The messages": reading a frame as a named kind
+use Prim.Native.Nat.{ℕ, _+_, _-_}
+use mathlib.Core.Bool.{Bool, cond, _&&_}
+use mathlib.Core.List.{List, [], _∷_, _++_}
+use lib.ListN.{length, take, drop, getD, replicate}
+use lib.Dec.{ltb, leb, eqb}
+use Rattle.frame.specs.Header.{headerError, totalOf, headerSizeOf, idOf}
+use Rattle.message.specs.Fields.{Row, State, Result, ok, refused, readMessage}
+use Rattle.message.specs.Records.{schemaOf, recordOf, attachmentSizeOf}
+use Rattle.message.specs.declared.Kind.{Kind}
+use Rattle.message.specs.declared.Kind.the-variants as kinds
+use Rattle.message.specs.declared.Record.{Record}
+use Rattle.message.specs.declared.Record.the-variants.{Refused}
+
+-- what is handed back: the record or the error code, header, body and attachment as bytes, and the row numbers afterwards
+pub record Reading : Type 0 where
+  pub answer : Record
+  pub header : List ℕ
+  pub body : List ℕ
+  pub attachment : List ℕ
+  pub rows : List ℕ
+
+-- ---- the parts
+-- "A unary frame is these 16, the header message, then the body. A stream frame is these 16, then its message, or raw bytes for Data."
+-- "In Init, Feedback and Close the message is the header and the others are empty; Data has only a body."
+unfoldable pub headerOf : Kind → List ℕ → List ℕ
+headerOf kinds.Request f = take (headerSizeOf f) (drop 16 f)
+headerOf kinds.Response f = take (headerSizeOf f) (drop 16 f)
+headerOf kinds.Init f = drop 16 f
+headerOf kinds.Data f = []
+headerOf kinds.Feedback f = drop 16 f
+headerOf kinds.Close f = drop 16 f
+
+unfoldable pub bodyOf : Kind → List ℕ → List ℕ
+bodyOf kinds.Request f = drop (16 + headerSizeOf f) f
+bodyOf kinds.Response f = drop (16 + headerSizeOf f) f
+bodyOf kinds.Init f = []
+bodyOf kinds.Data f = drop 16 f
+bodyOf kinds.Feedback f = []
+bodyOf kinds.Close f = []
+
+-- "The attachment is the last attachment_size bytes of the body."
+abbrev pub lastOf : ℕ → List ℕ → List ℕ
+lastOf n body = drop (length body - n) body
+
+-- ---- "the wrong kind of frame": "the caller of the reader names which of the six kinds it expects, for stream frames too"
+-- the data type and the stream type of a kind; the stream type of a unary frame is ignored
+unfoldable pub kindFits : Kind → (dataType streamType : ℕ) → Bool
+kindFits kinds.Request d t = eqb d 0
+kindFits kinds.Response d t = eqb d 0
+kindFits kinds.Init d t = eqb d 1 && eqb t 1
+kindFits kinds.Data d t = eqb d 1 && eqb t 2
+kindFits kinds.Feedback d t = eqb d 1 && eqb t 3
+kindFits kinds.Close d t = eqb d 1 && eqb t 4
+
+-- ---- the row numbers
+abbrev pub rowNumbers : ℕ
+rowNumbers = 256
+
+-- "four to a row (key start, key length, value start, value length)"
+abbrev pub flat : List Row → List ℕ
+flat [] = []
+flat (r ∷ rows) = r .key ∷ r .keySize ∷ r .value ∷ r .valueSize ∷ flat rows
+
+-- "zeros after them up to 256 numbers, in every kind; numbers past 256 are untouched"
+abbrev pub laidOut : List Row → List ℕ → List ℕ
+laidOut rows lent = flat rows ++ replicate (rowNumbers - length (flat rows)) 0 ++ drop rowNumbers lent
+
+-- ---- reading a frame
+-- "empty if refused"; "all others leave rows untouched"
+abbrev pub untouched : ℕ → List ℕ → Reading
+untouched code lent = record { answer = Refused code; header = []; body = []; attachment = []; rows = lent }
+
+-- "A reader's refusals 10 to 15 leave the first 256 row numbers 0"
+abbrev pub cleared : ℕ → List ℕ → Reading
+cleared code lent = record { answer = Refused code; header = []; body = []; attachment = []; rows = laidOut [] lent }
+
+-- "15 | attachment larger than body", "15 last"
+unfoldable pub finished : Kind → List ℕ → List ℕ → State → Reading
+finished kind f lent st =
+    cond (leb (attachmentSizeOf kind (st .slots)) (length (bodyOf kind f)))
+    (record {
+      answer = recordOf kind (idOf f) (st .slots) (length (st .rows));
+      header = headerOf kind f;
+      body = bodyOf kind f;
+      attachment = lastOf (attachmentSizeOf kind (st .slots)) (bodyOf kind f);
+      rows = laidOut (st .rows) lent;
+    })
+    (cleared 15 lent)
+
+-- what a message that was read, or refused, comes to
+unfoldable pub answered : Kind → List ℕ → List ℕ → Result → Reading
+answered kind f lent (refused code) = cleared code lent
+answered kind f lent (ok st) = finished kind f lent st
+
+-- "Reader: 16; fewer than 16 bytes is 9; 3 to 8; 9; then fields from left to right, ..; 15 last."
+unfoldable pub readFrame : Kind → List ℕ → List ℕ → Reading
+readFrame kind f lent =
+    cond (ltb (length lent) rowNumbers) (untouched 16 lent)
+    (cond (ltb (length f) 16) (untouched 9 lent)
+    (cond (eqb (headerError (take 16 f)) 0)
+    (cond (eqb (length f) (totalOf f) && kindFits kind (getD f 2 0) (getD f 3 0))
+    (answered kind f lent (readMessage f (schemaOf kind) 16 (headerOf kind f)))
+    (untouched 9 lent))
+    (untouched (headerError (take 16 f)) lent)))

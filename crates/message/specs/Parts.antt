@@ -1,0 +1,42 @@
+-- What the places say that the reader's core answers with
+use Prim.Native.Nat.{ℕ, _+_}
+use mathlib.Core.Path.{_≡_}
+use mathlib.Core.Bool.{true}
+use mathlib.Core.List.{List}
+use lib.ListN.{length, take, getD}
+use Rattle.frame.specs.Header.{headerError, totalOf, headerSizeOf, idOf}
+use Rattle.wire.specs.Part.{part}
+use Rattle.message.specs.Frames.{Reading, kindFits}
+use Rattle.message.specs.declared.Kind.{Kind}
+use Rattle.message.specs.declared.Kind.the-variants as kinds
+use Rattle.message.specs.declared.Record.the-variants.{Refused}
+use Rattle.message.specs.declared.frames.Parts.{Parts}
+
+-- The parts of the frame f at the places p, with the record and the row numbers, are the reading x.
+pub record PartsOf (x : Reading) (f : List ℕ) (p : Parts) (numbers : List ℕ) : Type 0 where
+  pub answer-is : p .answer ≡ x .answer
+  pub header-is : part f (p .places .header) (p .places .body) ≡ x .header
+  pub body-is : part f (p .places .body) (p .places .end) ≡ x .body
+  pub attachment-is : part f (p .places .attachment) (p .places .end) ≡ x .attachment
+  pub rows-are : numbers ≡ x .rows
+
+-- a refusal has no parts
+abbrev pub noParts : (code : ℕ) → Parts
+noParts code = record { answer = Refused code; places = record { header = 0; body = 0; attachment = 0; end = 0 } }
+
+-- the place behind the header, by the header size and the frame's length
+unfoldable pub bodyAt : Kind → (headerSize size : ℕ) → ℕ
+bodyAt kinds.Request h n = 16 + h
+bodyAt kinds.Response h n = 16 + h
+bodyAt kinds.Init h n = n
+bodyAt kinds.Data h n = 16
+bodyAt kinds.Feedback h n = n
+bodyAt kinds.Close h n = n
+
+-- a frame that is whole and of its kind, with its header size and id
+pub record Whole (kind : Kind) (f : List ℕ) (headerSize id : ℕ) : Type 0 where
+  pub good : headerError (take 16 f) ≡ 0
+  pub total-is : length f ≡ totalOf f
+  pub fits : kindFits kind (getD f 2 0) (getD f 3 0) ≡ true
+  pub size-is : headerSize ≡ headerSizeOf f
+  pub id-is : id ≡ idOf f

@@ -1,0 +1,136 @@
+// The tRPC messages: what a frame says, read as one of six kinds.
+mod decode;
+mod entry;
+mod fields;
+mod frames;
+mod records;
+mod rows;
+
+use frames::read_parts;
+use frames::reading_of;
+ghost use mathlib.Core.Path.{_≡_};
+ghost use Rattle.message.specs.Frames.{readFrame};
+
+// What the caller expects a frame to be. A unary frame does not say whether it is a request or a response.
+pub enum Kind {
+    Request,
+    Response,
+    Init,
+    Data,
+    Feedback,
+    Close,
+}
+
+// A byte field: where it starts in the frame, and how long it is; an empty one is 0, 0.
+pub struct Span {
+    pub start: u32,
+    pub len: u32,
+}
+
+pub struct Request {
+    pub id: u32,
+    pub version: u32,
+    pub call_type: u32,
+    pub request_id: u32,
+    pub timeout: u32,
+    pub caller: Span,
+    pub callee: Span,
+    pub func: Span,
+    pub message_type: u32,
+    pub content_type: u32,
+    pub content_encoding: u32,
+    pub attachment_size: u32,
+    pub rows: u32,
+}
+
+pub struct Response {
+    pub id: u32,
+    pub version: u32,
+    pub call_type: u32,
+    pub request_id: u32,
+    pub ret: i32,
+    pub func_ret: i32,
+    pub error_msg: Span,
+    pub message_type: u32,
+    pub content_type: u32,
+    pub content_encoding: u32,
+    pub attachment_size: u32,
+    pub rows: u32,
+}
+
+pub struct RequestMeta {
+    pub present: bool,
+    pub caller: Span,
+    pub callee: Span,
+    pub func: Span,
+    pub message_type: u32,
+}
+
+pub struct ResponseMeta {
+    pub present: bool,
+    pub ret: i32,
+    pub error_msg: Span,
+}
+
+pub struct Init {
+    pub id: u32,
+    pub request_meta: RequestMeta,
+    pub response_meta: ResponseMeta,
+    pub init_window_size: u32,
+    pub content_type: u32,
+    pub content_encoding: u32,
+    pub rows: u32,
+}
+
+pub struct Data {
+    pub id: u32,
+    pub rows: u32,
+}
+
+pub struct Feedback {
+    pub id: u32,
+    pub window_size_increment: u32,
+    pub rows: u32,
+}
+
+pub struct Close {
+    pub id: u32,
+    pub close_type: i32,
+    pub ret: i32,
+    pub msg: Span,
+    pub message_type: u32,
+    pub func_ret: i32,
+    pub rows: u32,
+}
+
+// The record of a frame, or the error code.
+pub enum Record {
+    Request(Request),
+    Response(Response),
+    Init(Init),
+    Data(Data),
+    Feedback(Feedback),
+    Close(Close),
+    Refused(u32),
+}
+
+// What a frame reads as: the record or the error code, and the parts of the caller's frame, which are empty where it is
+// refused.
+pub struct Reading<'a> {
+    pub record: Record,
+    pub header: &'a [u8],
+    pub body: &'a [u8],
+    pub attachment: &'a [u8],
+}
+
+// Reads a frame as the kind that the caller expects. The map rows go to the first 256 of the lent numbers, four to a row.
+pub fn read<'a, 'b>(kind: Kind, frame: &'a [u8], rows: &'b mut [u32]) -> Reading<'a>
+    ensures { λ r. ⌜ (r .«record» ≡ readFrame kind (now (frame .entry)) (now (rows .entry)) .answer)
+        × (now (r .header) ≡ readFrame kind (now (frame .entry)) (now (rows .entry)) .header)
+        × (now (r .body) ≡ readFrame kind (now (frame .entry)) (now (rows .entry)) .body)
+        × (now (r .attachment) ≡ readFrame kind (now (frame .entry)) (now (rows .entry)) .attachment)
+        × (now (rows .exit) ≡ readFrame kind (now (frame .entry)) (now (rows .entry)) .rows) ⌝ }
+{
+    let parts = read_parts(kind, frame, rows);
+    reading_of(frame, parts.answer, parts.places)
+}

@@ -1,0 +1,175 @@
+// The record of each kind, made of the slots of its message.
+use crate::Close;
+use crate::Data;
+use crate::Feedback;
+use crate::Init;
+use crate::Kind;
+use crate::Record;
+use crate::Request;
+use crate::RequestMeta;
+use crate::Response;
+use crate::ResponseMeta;
+use crate::Span;
+use crate::decode::Slots;
+ghost use mathlib.Core.Path.{_≡_};
+ghost use Prim.Native.Nat.{_≤_};
+ghost use Rattle.wire.specs.Varint.{lowI32};
+ghost use Rattle.message.specs.Records.{requestMetaOf, responseMetaOf, recordOf, attachmentSizeOf};
+
+// The record of a message that was read.
+pub(crate) fn record_of(kind: Kind, id: u32, slots: Slots) -> Record
+    requires { ⌜ slots .rows ≤ 64 ⌝ }
+    ensures { λ r. ⌜ r ≡ recordOf kind id (slots .values) (slots .rows) ⌝ }
+{
+    let v = slots.values;
+    let rows = slots.rows as u32;
+    match kind {
+        Kind::Request => request_of(id, v, rows),
+        Kind::Response => response_of(id, v, rows),
+        Kind::Init => init_of(id, v, rows),
+        Kind::Data => Record::Data(Data { id, rows }),
+        Kind::Feedback => Record::Feedback(Feedback {
+            id,
+            window_size_increment: v[0],
+            rows,
+        }),
+        Kind::Close => close_of(id, v, rows),
+    }
+}
+
+// The attachment size that a request or a response names; 0 of the other kinds.
+pub(crate) fn attachment_size(kind: Kind, v: [u32; 16]) -> u32
+    ensures { λ r. ⌜ r ≡ attachmentSizeOf kind v ⌝ }
+{
+    match kind {
+        Kind::Request => v[13],
+        Kind::Response => v[10],
+        Kind::Init => 0,
+        Kind::Data => 0,
+        Kind::Feedback => 0,
+        Kind::Close => 0,
+    }
+}
+
+// An int32 field: its slot has the low 32 bits.
+fn signed(v: u32) -> i32
+    ensures { λ r. ⌜ r ≡ lowI32 v ⌝ }
+{
+    wire::low_i32(v as u64)
+}
+
+fn request_of(id: u32, v: [u32; 16], rows: u32) -> Record
+    ensures { λ r. ⌜ r ≡ recordOf Kind.Request id v rows ⌝ }
+{
+    Record::Request(Request {
+        id,
+        version: v[0],
+        call_type: v[1],
+        request_id: v[2],
+        timeout: v[3],
+        caller: Span {
+            start: v[4],
+            len: v[5],
+        },
+        callee: Span {
+            start: v[6],
+            len: v[7],
+        },
+        func: Span {
+            start: v[8],
+            len: v[9],
+        },
+        message_type: v[10],
+        content_type: v[11],
+        content_encoding: v[12],
+        attachment_size: v[13],
+        rows,
+    })
+}
+
+fn response_of(id: u32, v: [u32; 16], rows: u32) -> Record
+    ensures { λ r. ⌜ r ≡ recordOf Kind.Response id v rows ⌝ }
+{
+    Record::Response(Response {
+        id,
+        version: v[0],
+        call_type: v[1],
+        request_id: v[2],
+        ret: signed(v[3]),
+        func_ret: signed(v[4]),
+        error_msg: Span {
+            start: v[5],
+            len: v[6],
+        },
+        message_type: v[7],
+        content_type: v[8],
+        content_encoding: v[9],
+        attachment_size: v[10],
+        rows,
+    })
+}
+
+fn request_meta_of(v: [u32; 16]) -> RequestMeta
+    ensures { λ r. ⌜ r ≡ requestMetaOf v ⌝ }
+{
+    RequestMeta {
+        present: v[0] != 0,
+        caller: Span {
+            start: v[1],
+            len: v[2],
+        },
+        callee: Span {
+            start: v[3],
+            len: v[4],
+        },
+        func: Span {
+            start: v[5],
+            len: v[6],
+        },
+        message_type: v[7],
+    }
+}
+
+fn response_meta_of(v: [u32; 16]) -> ResponseMeta
+    ensures { λ r. ⌜ r ≡ responseMetaOf v ⌝ }
+{
+    ResponseMeta {
+        present: v[8] != 0,
+        ret: signed(v[9]),
+        error_msg: Span {
+            start: v[10],
+            len: v[11],
+        },
+    }
+}
+
+fn init_of(id: u32, v: [u32; 16], rows: u32) -> Record
+    ensures { λ r. ⌜ r ≡ recordOf Kind.Init id v rows ⌝ }
+{
+    Record::Init(Init {
+        id,
+        request_meta: request_meta_of(v),
+        response_meta: response_meta_of(v),
+        init_window_size: v[12],
+        content_type: v[13],
+        content_encoding: v[14],
+        rows,
+    })
+}
+
+fn close_of(id: u32, v: [u32; 16], rows: u32) -> Record
+    ensures { λ r. ⌜ r ≡ recordOf Kind.Close id v rows ⌝ }
+{
+    Record::Close(Close {
+        id,
+        close_type: signed(v[0]),
+        ret: signed(v[1]),
+        msg: Span {
+            start: v[2],
+            len: v[3],
+        },
+        message_type: v[4],
+        func_ret: signed(v[5]),
+        rows,
+    })
+}
