@@ -65,8 +65,8 @@ class Protoc:
             with open(os.path.join(folder, name), "w", encoding="ascii") as written:
                 written.write(source)
 
-    def run(self, action, kind, file, given):
-        return protoc([f"-I{self.folder}", f"--{action}=trpc.{MESSAGES[kind]}", file], given)
+    def run(self, action, kind, file, given, *options):
+        return protoc([f"-I{self.folder}", f"--{action}=trpc.{MESSAGES[kind]}", *options, file], given)
 
     def encode(self, kind, values, explicit):
         return self.run("encode", kind, "explicit.proto" if explicit else "trpc.proto", text(values).encode("ascii"))

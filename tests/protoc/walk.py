@@ -1,5 +1,5 @@
-"""What make-corpus and make-records share: the field walk of document 01, running protoc, the bytes of fields, a fixed
-sequence of numbers, and the stored files."""
+"""What make-corpus, make-records and make-writes share: the field walk of document 01, running protoc, the bytes of
+fields, a fixed sequence of numbers, and the stored files."""
 
 import os
 import subprocess

@@ -1,4 +1,4 @@
-// The fields of a string, walked by `wire::next_field` and printed as protoc prints them. The walk
+// The fields of a string, walked by a field reader and printed as protoc prints them. The reader
 // takes all places, so nothing has to be known here of the places that it answers, and each loop
 // ends by a count of turns that no string uses up.
 use crate::text::print_byte;
@@ -8,6 +8,7 @@ use crate::text::print_hex;
 use crate::text::print_name;
 use crate::text::print_open;
 use crate::text::print_quoted;
+use field_reader::Step;
 use wire::Field;
 use wire::Skip;
 use wire::Tag;
@@ -18,26 +19,14 @@ const MESSAGE_LEVELS: u32 = 10;
 // Groups nest to 32, so a string that is not refused has no fields below this level.
 const LEVELS: u32 = 32;
 
-// 0 where the bytes of `s` up to `end` are fields, else the error code.
+// 0 where the bytes of `s` up to `end` are fields, else the error code. No field has the tag 0, so
+// what the walk for it finds is the end or the refusal.
 pub(crate) fn error_code(s: &[u8], end: usize) -> u32 {
-    let mut at = 0;
-    let mut turns = usize::MAX;
-    while turns > 0 {
-        turns -= 1;
-        let field = wire::next_field(s, at, end);
-        match field {
-            Field::End => {
-                return 0;
-            }
-            Field::Refused(code) => {
-                return code;
-            }
-            _ => {
-                at = behind(field, at);
-            }
-        }
+    let field = field_reader::last_field(up_to(s, end), 0);
+    match field {
+        Field::Refused(code) => code,
+        _ => 0,
     }
-    0
 }
 
 // Prints the fields of a part up to its end, or to what is no field: the part of a group takes its
@@ -47,8 +36,9 @@ pub(crate) fn print_fields(level: u32, s: &[u8], start: usize, end: usize) {
     let mut turns = usize::MAX;
     while turns > 0 {
         turns -= 1;
-        let field = wire::next_field(s, at, end);
-        let next = behind(field, at);
+        let step = step_within(s, at, end);
+        let field = step.field;
+        let next = step.at;
         if next == at {
             break;
         }
@@ -158,17 +148,18 @@ fn is_fields(s: &[u8], start: usize, end: usize, depth: u32) -> bool {
     false
 }
 
-// The place behind a field; `at` where there is none, at the end or an error.
-fn behind(field: Field, at: usize) -> usize {
-    match field {
-        Field::End => at,
-        Field::Varint(_, _, next) => next,
-        Field::Fixed64(_, _, next) => next,
-        Field::Bytes(_, start, length) => end_of(start, length),
-        Field::Group(_, next) => next,
-        Field::Fixed32(_, _, next) => next,
-        Field::Refused(_) => at,
+// What a reader of the bytes of `s` up to `end` finds at this place, and the place behind it.
+fn step_within(s: &[u8], at: usize, end: usize) -> Step {
+    field_reader::field_at(up_to(s, end), at)
+}
+
+// The bytes of `s` up to `end`, or all where it has fewer.
+fn up_to(s: &[u8], end: usize) -> &[u8] {
+    let start = 0;
+    if end < s.len() {
+        return &s[start..end];
     }
+    s
 }
 
 fn behind_tag(s: &[u8], at: usize, end: usize) -> usize {

@@ -11,15 +11,15 @@ use Rattle.wire.specs.Varint.{joined, groups, varint, twosComplement}
 use Rattle.wire.specs.Tags.{wireType, split, tag, within, lengthPrefix}
 use Rattle.wire.specs.Skipping.{further, skipVarint, skipFixed, skipBytes, value, inGroup, groupIn}
 use Rattle.wire.specs.Fields.{littleEndian, content, behind, nextField}
-use Rattle.message.specs.Schema.{width}
-use Rattle.message.specs.Fields.{look, setSlot, setBytes, setNumber, sameBytes, enter, addEntry, inside, oneField, fieldsIn, readMessage}
+use Rattle.decoder.specs.Schema.{width}
+use Rattle.decoder.specs.Fields.{look, setSlot, setBytes, setNumber, sameBytes, enter, addEntry, inside, oneField, fieldsIn, readMessage}
 use Rattle.message.specs.Records.{recordOf, attachmentSizeOf}
-use Rattle.message.specs.Frames.{Reading, headerOf, bodyOf, kindFits, finished, answered, readFrame}
+use Rattle.message.specs.Frames.{headerOf, bodyOf, kindFits, finished, answered, readFrame}
 use Rattle.message.specs.declared.Kind.{Kind}
 use Rattle.message.specs.declared.Kind.the-variants as kinds
 use Rattle.message.specs.declared.Span.{Span}
 use Rattle.message.specs.declared.Record.{Record}
-use Rattle.message.specs.declared.Record.the-variants.{Request, Response, Init, Data, Feedback, Close, Refused}
+use Rattle.message.specs.declared.Record.the-variants.{Request, Response, Init, Feedback, Close, Refused}
 
 -- a frame of id 7: its data and stream types, the header message and the body. Its sizes are below 256
 unary : List ℕ → List ℕ → List ℕ

@@ -19,12 +19,12 @@ use lib.ListN.{length, take}
 use Rattle.frame.specs.Header.{maxFrame}
 use Rattle.frame.specs.Deframe.{fresh}
 use Rattle.frame.specs.Stream.{Uncut}
-use Rattle.frame.specs.Calls.{Call, Event, pushed, finished, pushedWrong, finishedWrong, run, Offered, framesOf, frameIn, takenOf}
+use Rattle.frame.specs.Calls.{Call, Event, pushed, finished, pushedWrong, finishedWrong, run, Offered, framesOf, frameIn}
 use Rattle.frame.specs.declared.Progress.{Progress}
 use Rattle.frame.specs.declared.Progress.the-variants.{Frame, NeedMore, Refused}
 use Rattle.frame.proofs.Faithful.{faithful}
 use Rattle.message.specs.Frames.{Reading, readFrame}
-use Rattle.message.specs.Stream.{Naming, UncutReading, readEach, readOne, readingsOf, uncutReading, ReadFaithfully}
+use Rattle.message.specs.Stream.{Naming, readEach, readOne, readingsOf, ReadFaithfully}
 
 -- the readings made are those of the frames in the buffer, by number
 each-one : (named : Naming) (n : ℕ) (progress : Progress) (buffer : List ℕ) (frames : List (List ℕ)) (later : ℕ → List Reading)

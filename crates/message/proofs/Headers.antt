@@ -1,7 +1,7 @@
 -- What the fixed header of a frame tells of the frame
 use Prim.Native.Nat.{ℕ, _+_, _-_, _≤_, _<_}
-use mathlib.Core.Path.{_≡_, refl, sym, ap, subst, _∙_}
-use mathlib.Core.Bool.{Bool, true, false, cond, _&&_}
+use mathlib.Core.Path.{_≡_, refl, ap, _∙_}
+use mathlib.Core.Bool.{Bool, true, false, cond}
 use mathlib.Core.List.{List}
 use native.Mathlib.Omega.{arith}
 use borrow.Author.Tests.{eqb-true, eqb-false, leb-true}
@@ -10,7 +10,6 @@ use lib.ListN.{length, take, getD}
 use lib.Seq.{getD-take}
 use Rattle.frame.specs.Header.{maxFrame, be16Of, be32Of, totalOf, headerSizeOf, idOf, magicOk, dataTypeOk, streamTypeOk, totalOk, headerSizeOk, faultOf, headerError, typeOf, parsed}
 use Rattle.frame.specs.declared.FixedHeader.{FixedHeader}
-use Rattle.frame.specs.declared.Parsed.{Parsed}
 use Rattle.frame.specs.declared.Parsed.the-variants.{Good, Refused}
 use Rattle.frame.proofs.Codes.{kept, good-total}
 

@@ -7,19 +7,21 @@ use borrow.Author.Tests.{le-leb, lt-leb}
 use lib.ListN.{length, drop, replicate, length-drop}
 use Rattle.frame.specs.Header.{headerSizeOf, idOf}
 use Rattle.wire.specs.Part.{part}
-use Rattle.message.specs.Schema.{Schema}
-use Rattle.message.specs.Fields.{Row, State, Result, ok, refused, readMessage}
+use Rattle.decoder.specs.Rows.{Row, rowNumbers, laidOut, cleared}
+use Rattle.decoder.specs.Fields.{State, Result, ok, refused, readMessage}
+use Rattle.decoder.specs.Decoding.{schemaAt, decoded}
+use Rattle.decoder.specs.declared.Decoded.{Decoded}
+use Rattle.decoder.proofs.RowLaws.{drop-laid, length-laid}
+use Rattle.decoder.proofs.PartEnds.{part-rest}
+use Rattle.decoder.proofs.Answers.{Gives, Read, Decodes, decodes, all-cleared}
 use Rattle.message.specs.Records.{schemaOf, recordOf, attachmentSizeOf}
-use Rattle.message.specs.Frames.{Reading, headerOf, bodyOf, lastOf, rowNumbers, laidOut, untouched, finished, answered, readFrame}
-use Rattle.message.specs.Decoding.{schemaAt, Read, Failed, Decodes}
+use Rattle.message.specs.Frames.{Reading, headerOf, bodyOf, lastOf, untouched, finished, answered, readFrame}
 use Rattle.message.specs.Parts.{PartsOf, noParts, bodyAt, Whole}
 use Rattle.message.specs.declared.Kind.{Kind}
 use Rattle.message.specs.declared.Record.{Record}
-use Rattle.message.specs.declared.decode.Decoded.{Decoded}
 use Rattle.message.specs.declared.frames.Parts.{Parts}
 use Rattle.message.proofs.Readings.{its-message}
-use Rattle.message.proofs.PartPlaces.{part-rest, frame-size, within, header-part, body-rest, last-rest}
-use Rattle.message.proofs.RowLaws.{drop-laid}
+use Rattle.message.proofs.PartPlaces.{frame-size, within, header-part, body-rest, last-rest}
 
 -- ---- a refusal
 none : (code : ℕ) (f numbers : List ℕ) → PartsOf (untouched code numbers) f (noParts code) numbers
@@ -30,19 +32,30 @@ refusal {f} {numbers} {p} {code} e g =
     subst (λ (x : Reading). PartsOf x f p numbers) (sym e) (subst (λ (p : Parts). PartsOf (untouched code numbers) f p numbers) (sym g) (none code f numbers))
 
 -- ---- what the decoder's answer tells of the reading x of a message
+abbrev error-of : Decoded → ℕ
+error-of d = d .error
+
+abbrev values-of : Decoded → List ℕ
+values-of d = d .slots .values
+
+abbrev rows-of : Decoded → ℕ
+rows-of d = d .slots .rows
+
 failed : (x : Result) (d : Decoded) (numbers lent : List ℕ) → Decodes x d numbers lent → (d .error ≡ 0 → ⊥)
     → (x ≡ refused (d .error)) × (numbers ≡ laidOut [] lent)
-failed (ok st) d numbers lent r n = absurd (n (r .no-error))
-failed (refused code) d numbers lent r n = (ap refused (sym (r .code-is)), r .cleared)
+failed (ok st) d numbers lent r n = absurd (n (ap error-of (r .answer-is)))
+failed (refused code) d numbers lent r n = (ap refused (sym (ap error-of (r .answer-is))), r .laid)
 
 succeeded : (x : Result) (d : Decoded) (numbers lent : List ℕ) → Decodes x d numbers lent → d .error ≡ 0
     → (st : State) × (x ≡ ok st) × Read st d numbers lent
 succeeded (ok st) d numbers lent r e = (st, refl, r)
-succeeded (refused code) d numbers lent r e = absurd (omega (arith, r .code-is, r .some-code))
+succeeded (refused code) d numbers lent r e = absurd (omega (arith, ap error-of (r .answer-is), r .some-code))
 
 -- rows that are cleared again
-laid-again : (rows : List Row) (lent : List ℕ) → length rows ≤ 64 → laidOut [] (laidOut rows lent) ≡ laidOut [] lent
-laid-again rows lent few = ap (λ (x : List ℕ). replicate rowNumbers 0 ++ x) (drop-laid rows lent few)
+cleared-again : (rows : List Row) (lent : List ℕ) → length rows ≤ 64 → rowNumbers ≤ length lent → cleared (laidOut rows lent) ≡ laidOut [] lent
+cleared-again rows lent few long =
+    all-cleared (laidOut rows lent) (rw (length-laid rows lent few long) long)
+    ∙ ap (λ (x : List ℕ). replicate rowNumbers 0 ++ x) (drop-laid rows lent few)
 
 -- a message that was read, with a body that holds its attachment, and with one that does not
 module _ (kind : Kind) (f lent : List ℕ) (st : State) where
@@ -68,7 +81,7 @@ same-record kind e g h = cc
 -- ---- the reading of a whole frame: the code's body place, schema number, and what the decoder answered
 module _ (kind : Kind) (f lent : List ℕ) (size id body n : ℕ) (d : Decoded) (numbers : List ℕ)
     (rows : rowNumbers ≤ length lent) (whole : Whole kind f size id) (body-is : body ≡ bodyAt kind size (length f)) (schema-is : schemaAt n ≡ schemaOf kind)
-    (decoded : Decodes (readMessage f (schemaAt n) 16 (part f 16 body)) d numbers lent) where
+    (gave : Gives (decoded f 16 body n lent) d numbers) where
   place : body ≡ bodyAt kind (headerSizeOf f) (length f)
   place = body-is ∙ ap (λ (m : ℕ). bodyAt kind m (length f)) (whole .size-is)
 
@@ -86,14 +99,14 @@ module _ (kind : Kind) (f lent : List ℕ) (size id body n : ℕ) (d : Decoded) 
 
   its : Decodes result d numbers lent
   unfolding result
-  its = rw (← schema-is, ← head) decoded
+  its = rw (← schema-is, ← head) (decodes f 16 body n lent d numbers rows (frame-size kind f size id whole .1) gave)
 
   answer : readFrame kind f lent ≡ answered kind f lent result
   unfolding result
   answer = its-message kind f lent rows (frame-size kind f size id whole .0) (whole .good) (whole .total-is) (whole .fits)
 
   pub few-decoded : d .error ≡ 0 → d .slots .rows ≤ 64
-  few-decoded e = let (st, x, r) = succeeded result d numbers lent its e in omega (arith, r .rows-are, r .few)
+  few-decoded e = let (st, x, r) = succeeded result d numbers lent its e in omega (arith, ap rows-of (r .answer-is), r .few)
 
   pub fields-refused : {p : Parts} → (d .error ≡ 0 → ⊥) → p ≡ noParts (d .error) → PartsOf (readFrame kind f lent) f p numbers
   unfolding answered
@@ -102,11 +115,11 @@ module _ (kind : Kind) (f lent : List ℕ) (size id body n : ℕ) (d : Decoded) 
       refusal (answer ∙ ap (answered kind f lent) e ∙ ap (untouched (d .error)) (sym cleared)) g
 
   pub attachment-refused : {p : Parts} {a : ℕ} {last : List ℕ} → d .error ≡ 0 → a ≡ attachmentSizeOf kind (d .slots .values) → length f - body < a
-      → last ≡ laidOut [] numbers → p ≡ noParts 15 → PartsOf (readFrame kind f lent) f p last
+      → last ≡ cleared numbers → p ≡ noParts 15 → PartsOf (readFrame kind f lent) f p last
   attachment-refused {a} e is-a large last g =
       let (st, x, r) = succeeded result d numbers lent its e in
-      let a-is : a ≡ attachmentSizeOf kind (st .slots) = is-a ∙ ap (attachmentSizeOf kind) (r .values-are) in
-      let same = last ∙ ap (laidOut []) (r .laid) ∙ laid-again (st .rows) lent (r .few) in
+      let a-is : a ≡ attachmentSizeOf kind (st .slots) = is-a ∙ ap (attachmentSizeOf kind) (ap values-of (r .answer-is)) in
+      let same = last ∙ ap cleared (r .laid) ∙ cleared-again (st .rows) lent (r .few) rows in
       refusal
       (answer ∙ ap (answered kind f lent) x ∙ too-large kind f lent st (omega (arith, body-length, a-is)) ∙ ap (untouched 15) (sym same))
       g
@@ -116,10 +129,10 @@ module _ (kind : Kind) (f lent : List ℕ) (size id body n : ℕ) (d : Decoded) 
       → PartsOf (readFrame kind f lent) f (record { answer = r; places = record { header = 16; body = body; attachment = length f - a; end = length f } }) numbers
   message-read {a} e is-a fits is-r =
       let (st, x, k) = succeeded result d numbers lent its e in
-      let a-is : a ≡ attachmentSizeOf kind (st .slots) = is-a ∙ ap (attachmentSizeOf kind) (k .values-are) in
+      let a-is : a ≡ attachmentSizeOf kind (st .slots) = is-a ∙ ap (attachmentSizeOf kind) (ap values-of (k .answer-is)) in
       let all = answer ∙ ap (answered kind f lent) x ∙ attached kind f lent st (omega (arith, body-length, a-is)) in
       rw all (record {
-        answer-is = is-r ∙ same-record kind (whole .id-is) (k .values-are) (k .rows-are);
+        answer-is = is-r ∙ same-record kind (whole .id-is) (ap values-of (k .answer-is)) (ap rows-of (k .answer-is));
         header-is = head;
         body-is = part-rest f body ∙ sym rest;
         attachment-is = last-rest f body a (within kind f size id whole body body-is .1) fits ∙ rw (a-is, rest);

@@ -1,24 +1,18 @@
 -- Where the parts of a whole frame stand
 use Prim.Native.Nat.{ℕ, _+_, _-_, _≤_}
 use mathlib.Core.Path.{_≡_, refl, sym, ap, _∙_}
-use mathlib.Core.List.{List, []}
+use mathlib.Core.List.{List}
 use native.Mathlib.Omega.{arith}
-use lib.ListN.{length, take, drop, length-drop, drop-of-length-le}
-use lib.Seq.{take-all, drop-drop, drop-length}
-use Rattle.frame.specs.Header.{maxFrame, totalOf, headerSizeOf}
+use lib.ListN.{length, drop, length-drop}
+use lib.Seq.{drop-drop, drop-length}
+use Rattle.frame.specs.Header.{maxFrame, headerSizeOf}
 use Rattle.wire.specs.Part.{part}
+use Rattle.decoder.proofs.PartEnds.{part-rest}
 use Rattle.message.specs.Frames.{headerOf, bodyOf, lastOf}
 use Rattle.message.specs.Parts.{bodyAt, Whole}
 use Rattle.message.specs.declared.Kind.{Kind}
 use Rattle.message.specs.declared.Kind.the-variants as kinds
 use Rattle.message.proofs.Headers.{good-size, good-whole}
-
--- up to the end of the frame, a part is all that is left
-pub part-rest : (f : List ℕ) (at : ℕ) → part f at (length f) ≡ drop at f
-part-rest f at = take-all (length f - at) (drop at f) (omega (arith, length-drop at f))
-
-pub part-to-end : (f : List ℕ) (at end : ℕ) → length f ≤ end → part f at (length f) ≡ part f at end
-part-to-end f at end h = part-rest f at ∙ sym (take-all (end - at) (drop at f) (omega (arith, length-drop at f)))
 
 module _ (kind : Kind) (f : List ℕ) (size id : ℕ) (whole : Whole kind f size id) where
   pub header-size : 16 + size ≤ length f

@@ -1,15 +1,15 @@
 -- What `readFrame` gives on each ground, in document 01's order
 use Prim.Native.Nat.{ℕ, _≤_, _<_}
 use mathlib.Core.Path.{_≡_}
-use mathlib.Core.Bool.{true, false, _&&_}
+use mathlib.Core.Bool.{true, false}
 use mathlib.Core.List.{List}
 use borrow.Author.Tests.{lt-ltb, le-ltb, eq-eqb, ne-eqb}
-use lib.Dec.{eqb}
 use lib.ListN.{length, take, getD}
 use Rattle.frame.specs.Header.{headerError, totalOf}
-use Rattle.message.specs.Fields.{readMessage}
+use Rattle.decoder.specs.Fields.{readMessage}
+use Rattle.decoder.specs.Rows.{rowNumbers}
 use Rattle.message.specs.Records.{schemaOf}
-use Rattle.message.specs.Frames.{headerOf, kindFits, rowNumbers, untouched, answered, readFrame}
+use Rattle.message.specs.Frames.{headerOf, kindFits, untouched, answered, readFrame}
 use Rattle.message.specs.declared.Kind.{Kind}
 
 pub few-rows : (kind : Kind) (f lent : List ℕ) → length lent < rowNumbers → readFrame kind f lent ≡ untouched 16 lent

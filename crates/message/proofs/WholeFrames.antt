@@ -1,5 +1,5 @@
 -- From what `parse_header` answers to what the reading of a frame says
-use Prim.Native.Nat.{ℕ, _≤_, _<_}
+use Prim.Native.Nat.{ℕ, _≤_}
 use mathlib.Core.Path.{_≡_, sym, ap, _∙_}
 use mathlib.Core.Bool.{true, false}
 use mathlib.Core.List.{List}
@@ -7,7 +7,8 @@ use lib.ListN.{length, take, getD}
 use Rattle.frame.specs.Header.{parsed}
 use Rattle.frame.specs.declared.FixedHeader.{FixedHeader}
 use Rattle.frame.specs.declared.Parsed.the-variants.{Good, Refused}
-use Rattle.message.specs.Frames.{kindFits, rowNumbers, untouched, readFrame}
+use Rattle.message.specs.Frames.{kindFits, untouched, readFrame}
+use Rattle.decoder.specs.Rows.{rowNumbers}
 use Rattle.message.specs.Parts.{PartsOf, noParts, Whole}
 use Rattle.message.specs.declared.Kind.{Kind}
 use Rattle.message.specs.declared.frames.Parts.{Parts}

@@ -1,11 +1,12 @@
 -- Document 01, "The messages": reading a frame as a named kind
 use Prim.Native.Nat.{ℕ, _+_, _-_}
 use mathlib.Core.Bool.{Bool, cond, _&&_}
-use mathlib.Core.List.{List, [], _∷_, _++_}
-use lib.ListN.{length, take, drop, getD, replicate}
+use mathlib.Core.List.{List, []}
+use lib.ListN.{length, take, drop, getD}
 use lib.Dec.{ltb, leb, eqb}
 use Rattle.frame.specs.Header.{headerError, totalOf, headerSizeOf, idOf}
-use Rattle.message.specs.Fields.{Row, State, Result, ok, refused, readMessage}
+use Rattle.decoder.specs.Fields.{State, Result, ok, refused, readMessage}
+use Rattle.decoder.specs.Rows.{rowNumbers, laidOut}
 use Rattle.message.specs.Records.{schemaOf, recordOf, attachmentSizeOf}
 use Rattle.message.specs.declared.Kind.{Kind}
 use Rattle.message.specs.declared.Kind.the-variants as kinds
@@ -52,19 +53,6 @@ kindFits kinds.Init d t = eqb d 1 && eqb t 1
 kindFits kinds.Data d t = eqb d 1 && eqb t 2
 kindFits kinds.Feedback d t = eqb d 1 && eqb t 3
 kindFits kinds.Close d t = eqb d 1 && eqb t 4
-
--- ---- the row numbers
-abbrev pub rowNumbers : ℕ
-rowNumbers = 256
-
--- "four to a row (key start, key length, value start, value length)"
-abbrev pub flat : List Row → List ℕ
-flat [] = []
-flat (r ∷ rows) = r .key ∷ r .keySize ∷ r .value ∷ r .valueSize ∷ flat rows
-
--- "zeros after them up to 256 numbers, in every kind; numbers past 256 are untouched"
-abbrev pub laidOut : List Row → List ℕ → List ℕ
-laidOut rows lent = flat rows ++ replicate (rowNumbers - length (flat rows)) 0 ++ drop rowNumbers lent
 
 -- ---- reading a frame
 -- "empty if refused"; "all others leave rows untouched"

@@ -1,9 +1,5 @@
 -- What the contracts of `message` cite, in the order of document 01, "The messages", and demand 3 whole
-pub mod Schema
-pub mod Fields
 pub mod Records
 pub mod Frames
-pub mod Decoding
-pub mod DecoderState
 pub mod Parts
 pub mod Stream

@@ -5,7 +5,7 @@ use mathlib.Core.List.{List}
 use lib.ListN.{getD}
 use lib.Dec.{eqb}
 use Rattle.wire.specs.Varint.{lowI32}
-use Rattle.message.specs.Schema.{Schema, done, request, response, init, feedback, close}
+use Rattle.decoder.specs.Schema.{Schema, done, request, response, init, feedback, close}
 use Rattle.message.specs.declared.Kind.{Kind}
 use Rattle.message.specs.declared.Kind.the-variants as kinds
 use Rattle.message.specs.declared.Span.{Span}

@@ -2,11 +2,11 @@
 use crate::Kind;
 use crate::Reading;
 use crate::Record;
-use crate::decode::decode;
 use crate::records::attachment_size;
 use crate::records::record_of;
-use crate::rows::ROW_NUMBERS;
-use crate::rows::clear;
+use decoder::ROW_NUMBERS;
+use decoder::clear_rows;
+use decoder::decode;
 use frame::FixedHeader;
 use frame::HEADER;
 use frame::Parsed;
@@ -19,9 +19,10 @@ ghost use mathlib.Core.Bool.{_&&_};
 ghost use Rattle.frame.specs.Header.{parsed};
 ghost use Rattle.frame.specs.declared.Parsed.the-variants.{Good};
 ghost use Rattle.wire.specs.Part.{part};
-ghost use Rattle.message.specs.Frames.{kindFits, rowNumbers, readFrame};
+ghost use Rattle.message.specs.Frames.{kindFits, readFrame};
+ghost use Rattle.decoder.specs.Rows.{rowNumbers};
 ghost use Rattle.message.specs.Records.{schemaOf};
-ghost use Rattle.message.specs.Decoding.{schemaAt};
+ghost use Rattle.decoder.specs.Decoding.{schemaAt};
 ghost use Rattle.message.specs.Parts.{PartsOf, noParts, bodyAt, Whole};
 
 // Where the parts of a frame stand: the header up to the body, the body and the attachment up to the end. All are 0 where the
@@ -81,12 +82,12 @@ fn schema_number(kind: Kind) -> u32
     ensures { λ r. ⌜ schemaAt r ≡ schemaOf kind ⌝ }
 {
     match kind {
-        Kind::Request => 0,
-        Kind::Response => 1,
-        Kind::Init => 2,
-        Kind::Data => 3,
-        Kind::Feedback => 4,
-        Kind::Close => 5,
+        Kind::Request => decoder::REQUEST,
+        Kind::Response => decoder::RESPONSE,
+        Kind::Init => decoder::INIT,
+        Kind::Data => decoder::DATA,
+        Kind::Feedback => decoder::FEEDBACK,
+        Kind::Close => decoder::CLOSE,
     }
 }
 
@@ -121,7 +122,7 @@ fn read_message(kind: Kind, frame: &[u8], header_size: usize, id: u32, rows: &mu
     let values = slots.values;
     let attachment = attachment_size(kind, values) as usize;
     if size - body < attachment {
-        clear(rows);
+        clear_rows(rows);
         return refused(15);
     }
     Parts {

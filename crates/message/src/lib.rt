@@ -1,10 +1,6 @@
 // The tRPC messages: what a frame says, read as one of six kinds.
-mod decode;
-mod entry;
-mod fields;
 mod frames;
 mod records;
-mod rows;
 
 use frames::read_parts;
 use frames::reading_of;

@@ -10,7 +10,7 @@ use crate::RequestMeta;
 use crate::Response;
 use crate::ResponseMeta;
 use crate::Span;
-use crate::decode::Slots;
+use decoder::Slots;
 ghost use mathlib.Core.Path.{_≡_};
 ghost use Prim.Native.Nat.{_≤_};
 ghost use Rattle.wire.specs.Varint.{lowI32};

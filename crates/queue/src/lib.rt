@@ -29,6 +29,7 @@ pub const ERROR_DUPLICATE: u32 = 25;
 pub const ERROR_ABSENT: u32 = 26;
 
 // A job, named by its pair of connection number and request id. A timeout of 0 is no deadline. Times are in milliseconds.
+#[repr(C)]
 pub struct Job {
     pub connection: u32,
     pub request: u32,
@@ -37,6 +38,7 @@ pub struct Job {
 }
 
 // The first `count` jobs wait, in order of acceptance.
+#[repr(C)]
 pub struct Queue {
     pub jobs: [Job; 64],
     pub count: usize,

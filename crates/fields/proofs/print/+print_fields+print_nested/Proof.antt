@@ -10,12 +10,11 @@ use Rattle.fields.proofs.print.+print_fields+print_nested.Lts-print_fie
 use Rattle.fields.proofs.print.print_nested.Reads as print-nested
 use Rattle.fields.proofs.print.print_nested.Kinds as print-nested-kinds
 use Rattle.fields.proofs.print.+print_fields+print_nested.Lts-print_nested as print-nested-lts
-use Rattle.fields.proofs.print.behind.Reads as behind
 use Rattle.fields.proofs.print.fields_inside.Reads as fields-inside
 use Rattle.fields.proofs.print.print_value.Reads as print-value
+use Rattle.fields.proofs.print.step_within.Reads as step-within
 use Rattle.fields.proofs.text.print_close.Reads as print-close
 use Rattle.fields.proofs.text.print_open.Reads as print-open
-use Rattle.wire.proofs.next_field.Reads as next-field
 use Rattle.fields.proofs.print.+print_fields+print_nested.{statement}
 use Rattle.fields.proofs.print.+print_fields+print_nested.Tie.{close}
 
@@ -57,10 +56,8 @@ abbrev μ-loop : print-fields-lts.MeasureT-loop
 
 pub +print-fields+print-nested-spec : {M : Type 1} → statement M
 +print-fields+print-nested-spec = close μ-print-fields μ-print-nested (λ t. print-fields-lts.spec (
-  next-field.Asked,
-  next-field.Learnt,
-  behind.Asked,
-  behind.Learnt,
+  step-within.Asked,
+  step-within.Learnt,
   fields-inside.Asked,
   fields-inside.Learnt,
   print-nested-below t,
@@ -74,7 +71,6 @@ pub +print-fields+print-nested-spec : {M : Type 1} → statement M
     μ-loop
     (λ c. tt)
     (λ c. search needs)
-    (λ c κs. tt)
     (λ c κs. tt)
     (λ c κs. tt)
     (λ c. search needs)

@@ -3,7 +3,7 @@ use mathlib.Core.Path.{sym}
 use native.Mathlib.Omega.{arith}
 use borrow.Author.Needs.{needs}
 use Rattle.wire.proofs.PartLaws.{part-empty}
-use Rattle.message.proofs.PartPlaces.{part-to-end}
+use Rattle.decoder.proofs.PartEnds.{part-to-end}
 use Rattle.message.proofs.frames.between.Statement.{statement}
 use Rattle.message.proofs.frames.between.Tie as tie
 

@@ -15,11 +15,7 @@ schema-number-requires : tie.Need-schema-number-requires
 schema-number-requires c κs = search needs
 
 decode-requires : tie.Need-decode-requires
-decode-requires c κs =
-    let at-body-at = c .before .before in
-    let start = at-body-at .before .before .before in
-    let inside = within (start .args .kind) (start .args .frame .now) (start .args .header-size) (start .args .id) (start .pre .1) _ (at-body-at .body-at .ensures) in
-    (inside .0, inside .1, frame-size (start .args .kind) (start .args .frame .now) (start .args .header-size) (start .args .id) (start .pre .1) .1, start .pre .0)
+decode-requires c κs = search needs
 
 refused-requires : tie.Need-refused-requires
 refused-requires c κs = search needs
@@ -48,8 +44,8 @@ sub-if2 c =
     let start = at-body-at .before .before .before in
     within (start .args .kind) (start .args .frame .now) (start .args .header-size) (start .args .id) (start .pre .1) _ (at-body-at .body-at .ensures) .1
 
-clear-requires : tie.Need-clear-requires
-clear-requires c κs = search needs
+clear-rows-requires : tie.Need-clear-rows-requires
+clear-rows-requires c κs = search needs
 
 refused-requires-2 : tie.Need-refused-requires-2
 refused-requires-2 c κs = search needs
@@ -67,7 +63,7 @@ returns-2 c =
     let at-schema-number = at-decode .before .before in
     let at-body-at = at-schema-number .before in
     let start = at-body-at .before .before .before in
-    attachment-refused _ _ _ _ _ _ _ _ _ (start .pre .0) (start .pre .1) (at-body-at .body-at .ensures) (at-schema-number .schema-number .ensures) (at-decode .decode .ensures) (at-if1 .if1 .left) (at-attachment-size .attachment-size .ensures) (at-if2 .if2 .taken) (at-clear .clear .ensures) (c .refused2 .ensures)
+    attachment-refused _ _ _ _ _ _ _ _ _ (start .pre .0) (start .pre .1) (at-body-at .body-at .ensures) (at-schema-number .schema-number .ensures) (at-decode .decode .ensures) (at-if1 .if1 .left) (at-attachment-size .attachment-size .ensures) (at-if2 .if2 .taken) (at-clear .clear-rows .ensures) (c .refused2 .ensures)
 
 record-of-requires : tie.Need-record-of-requires
 record-of-requires c κs =
@@ -108,7 +104,7 @@ read-message-spec =
     attachment-size-requires
     cast-attachment
     sub-if2
-    clear-requires
+    clear-rows-requires
     refused-requires-2
     same-length-2
     returns-2

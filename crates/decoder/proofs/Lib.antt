@@ -1,0 +1,16 @@
+-- For the layers above, each law stated once.
+pub mod Codes
+pub mod Steps
+pub mod RowLaws
+pub mod Results
+pub mod PartEnds
+pub mod Answers
+-- For the proofs of this crate's functions.
+mod Targets
+mod Walk
+mod RowUpdates
+mod EntryLaws
+mod StateLaws
+mod MapEntries
+mod FieldLoop
+mod Whole

@@ -1,0 +1,77 @@
+// The decoder of the tRPC messages: the fields of a part of a frame go to slots, and its map to lent
+// rows, by a schema number.
+mod entry;
+mod fields;
+mod messages;
+mod rows;
+
+use frame::MAX_FRAME;
+use messages::decode_part;
+use messages::refused;
+use rows::clear;
+ghost use mathlib.Core.Path.{_≡_};
+ghost use Prim.Native.Nat.{min};
+ghost use Rattle.decoder.specs.Rows.{cleared};
+ghost use Rattle.decoder.specs.Decoding.{decoded};
+
+// The schema numbers. Data has no fields, nor has a message of any other number.
+pub const REQUEST: u32 = 0;
+
+pub const RESPONSE: u32 = 1;
+
+pub const INIT: u32 = 2;
+
+pub const DATA: u32 = 3;
+
+pub const FEEDBACK: u32 = 4;
+
+pub const CLOSE: u32 = 5;
+
+// The numbers that the rows may take, four to a row.
+pub const ROW_NUMBERS: usize = 256;
+
+// The values of a message's fields by its schema's order, how many rows there are, and how many map
+// entries were seen, repeats counted.
+pub struct Slots {
+    pub values: [u32; 16],
+    pub rows: usize,
+    pub entries: u32,
+}
+
+// What was read; or the error code, where it is not 0, and the slots are all zero.
+pub struct Decoded {
+    pub slots: Slots,
+    pub error: u32,
+}
+
+// The smaller of two places.
+fn least(a: usize, b: usize) -> usize
+    ensures { λ r. ⌜ r ≡ min a b ⌝ }
+{
+    if a < b { a } else { b }
+}
+
+// Reads the bytes of the frame from `at` up to `end`, as far as they exist, as the message of the
+// schema number. The map rows go to the first 256 of the lent numbers.
+pub fn decode(frame: &[u8], at: usize, end: usize, schema: u32, rows: &mut [u32]) -> Decoded
+    ensures { λ r. ⌜ r ≡ decoded (now (frame .entry)) at end schema (now (rows .entry)) .answer ⌝ }
+    ensures { λ r. ⌜ now (rows .exit) ≡ decoded (now (frame .entry)) at end schema (now (rows .entry)) .rows ⌝ }
+{
+    if rows.len() < ROW_NUMBERS {
+        return refused(16);
+    }
+    if MAX_FRAME < frame.len() {
+        return refused(9);
+    }
+    let stop = least(end, frame.len());
+    decode_part(frame, least(at, stop), stop, schema, rows)
+}
+
+// Leaves no rows: the first 256 numbers are 0 then. A shorter slice is left as it is.
+pub fn clear_rows(rows: &mut [u32])
+    ensures { λ _. ⌜ now (rows .exit) ≡ cleared (now (rows .entry)) ⌝ }
+{
+    if ROW_NUMBERS <= rows.len() {
+        clear(rows);
+    }
+}

@@ -1,0 +1,19 @@
+-- The theorems of demand 2: what is written reads back, and when nothing is written
+pub mod RoundTrip
+pub mod Exactly
+-- The laws under them: a message by its schema, then the frame and the record
+mod Said
+mod Written
+mod Formed
+mod Landing
+mod Keys
+mod FieldsRead
+mod SchemaRead
+mod SchemaSaid
+mod MessageRead
+mod FrameBack
+mod RecordBack
+mod Accepted
+mod FrameRead
+mod GroundTests
+mod GroundOrder

@@ -1,0 +1,118 @@
+-- The refusals in two steps are those of the paper's order.
+use Prim.Native.Nat.{ℕ, _+_, _≤_}
+use mathlib.Core.Path.{_≡_, refl, sym, _∙_}
+use mathlib.Core.Bool.{Bool, true, false, cond}
+use mathlib.Core.List.{List, _++_}
+use lib.ListN.{length, drop, length-append}
+use lib.Dec.{leb, eqb}
+use native.Mathlib.Omega.{arith}
+use borrow.Author.Tests.{le-leb, leb-true, ne-eqb}
+use Rattle.frame.specs.Header.{maxFrame, unless}
+use Rattle.frame.proofs.Codes.{kept}
+use Rattle.wire.specs.Writing.{stored}
+use Rattle.message.specs.Records.{schemaOf}
+use Rattle.message.specs.declared.Kind.{Kind}
+use Rattle.message.specs.declared.Record.{Record}
+use Rattle.writer.specs.Content.{kindOf, recordId, rowCount, slotsOf}
+use Rattle.writer.specs.Grounds.{rowsOk, spansWithin, rowsWithin, keysDiffer, absentOk, bodyOk}
+use Rattle.writer.specs.Writing.{maxHeader, headerSize, fixedHeader, rowsOf, messageOf, frameOf, writeError, writtenBy}
+use Rattle.writer.specs.Items.{contentError, sizeError, Puts, messageIn, frameWith, writtenWith}
+use Rattle.writer.specs.declared.Encoded.the-variants.{Frame, Refused}
+use Rattle.writer.specs.declared.content.Content.{Content}
+
+-- the first error, else the second
+abbrev pub orElse : ℕ → ℕ → ℕ
+orElse a b = cond (eqb a 0) b a
+
+six : (a b c d e f : Bool) (s : ℕ)
+    → unless a 18 (unless b 17 (unless c 17 (unless d 18 (unless e 18 (unless f 15 s)))))
+    ≡ orElse (unless a 18 (unless b 17 (unless c 17 (unless d 18 (unless e 18 (unless f 15 0)))))) s
+six false b c d e f s = refl
+six true false c d e f s = refl
+six true true false d e f s = refl
+six true true true false e f s = refl
+six true true true true false f s = refl
+six true true true true true false s = refl
+six true true true true true true s = refl
+
+pub header-length : (kind : Kind) (total size id : ℕ) → length (fixedHeader kind total size id) ≡ 16
+unfolding fixedHeader
+header-length kind total size id = refl
+
+module _ (r : Record) (source numbers body : List ℕ) where
+  pub frame-length : length (frameOf r source numbers body) ≡ 16 + length (messageOf r source numbers) + length body
+  unfolding frameOf
+  frame-length =
+      let m = messageOf r source numbers in
+      let h = fixedHeader (kindOf r) (16 + length m + length body) (headerSize (kindOf r) m) (recordId r) in
+      length-append (h ++ m) body
+      ∙ rw (length-append h m, header-length (kindOf r) (16 + length m + length body) (headerSize (kindOf r) m) (recordId r))
+
+  pub error-is : (room : ℕ)
+      → writeError r source numbers body room
+      ≡ orElse (contentError (kindOf r) (slotsOf r) (rowCount r) source numbers (length body))
+      (sizeError (length (messageOf r source numbers)) (16 + length (messageOf r source numbers) + length body) room)
+  unfolding writeError contentError sizeError
+  error-is room =
+      rw frame-length
+      (six
+      (rowsOk (kindOf r) (rowCount r) (length numbers))
+      (spansWithin (length source) (schemaOf (kindOf r)) 0 (slotsOf r))
+      (rowsWithin (length source) (rowsOf r numbers))
+      (keysDiffer source (rowsOf r numbers))
+      (absentOk (rowsOf r numbers) (schemaOf (kindOf r)) 0 (slotsOf r))
+      (bodyOk (kindOf r) (slotsOf r) (length body))
+      (sizeError (length (messageOf r source numbers)) (16 + length (messageOf r source numbers) + length body) room))
+
+-- ---- what is answered
+
+-- no size is refused
+pub no-error : (size total room : ℕ) → sizeError size total room ≡ 0 → (total ≤ maxFrame) × (size ≤ maxHeader) × (total ≤ room)
+unfolding sizeError
+no-error size total room e =
+    let a = kept (leb total maxFrame) 19 _ (omega arith) e in
+    let b = kept (leb size maxHeader) 20 _ (omega arith) (a .1) in
+    let c = kept (leb total room) 27 0 (omega arith) (b .1) in
+    (leb-true _ _ (a .0), leb-true _ _ (b .0), leb-true _ _ (c .0))
+
+module _ (c : Content) (header body output : List ℕ) (e : ℕ) (is-e : e ≡ sizeError (length header) (16 + length header + length body) (length output)) where
+  pub refused-size : (e ≡ 0 → ⊥) → (Refused e ≡ writtenWith c header body output .answer) × (output ≡ writtenWith c header body output .output)
+  refused-size h = (rw (← is-e, ne-eqb e 0 h), rw (← is-e, ne-eqb e 0 h))
+
+  with-length : length (frameWith c header body) ≡ 16 + length header + length body
+  with-length =
+      let h = fixedHeader (c .kind) (16 + length header + length body) (headerSize (c .kind) header) (c .id) in
+      length-append (h ++ header) body
+      ∙ rw (length-append h header, header-length (c .kind) (16 + length header + length body) (headerSize (c .kind) header) (c .id))
+
+  pub framed : e ≡ 0 → {r : ℕ} {after : List ℕ} → Puts (frameWith c header body) output 0 r after
+      → (Frame r ≡ writtenWith c header body output .answer) × (after ≡ writtenWith c header body output .output)
+  unfolding stored
+  framed h {r} {after} p =
+      let fits : length (frameWith c header body) ≤ length output =
+      omega (arith, with-length, no-error (length header) (16 + length header + length body) (length output) (sym is-e ∙ h)) in
+      let none : sizeError (length header) (16 + length header + length body) (length output) ≡ 0 = sym is-e ∙ h in
+      let from-start : 0 + length (frameWith c header body) ≡ length (frameWith c header body) = omega arith in
+      let here : after ≡ frameWith c header body ++ drop (length (frameWith c header body)) output =
+      rw (from-start, le-leb (length (frameWith c header body)) (length output) fits) at (p .bytes) in
+      (rw (none, p .place, from-start), rw none here)
+
+module _ (r : Record) (source numbers body output : List ℕ) (c : Content)
+    (is-c : (c .kind ≡ kindOf r) × (c .id ≡ recordId r) × (c .values ≡ slotsOf r) × (c .rows ≡ rowCount r))
+    (e : ℕ) (is-e : e ≡ contentError (c .kind) (c .values) (c .rows) source numbers (length body)) where
+  of-record : e ≡ contentError (kindOf r) (slotsOf r) (rowCount r) source numbers (length body)
+  of-record = rw (is-c .0, is-c .2, is-c .3) at is-e
+
+  pub refused-content : (e ≡ 0 → ⊥)
+      → (Refused e ≡ writtenBy r source numbers body output .answer) × (output ≡ writtenBy r source numbers body output .output)
+  refused-content h =
+      let same : writeError r source numbers body (length output) ≡ e = error-is r source numbers body (length output) ∙ rw (← of-record, ne-eqb e 0 h) in
+      (rw (same, ne-eqb e 0 h), rw (same, ne-eqb e 0 h))
+
+  pub accepted-content : e ≡ 0 → writtenWith c (messageIn c source numbers) body output ≡ writtenBy r source numbers body output
+  unfolding frameOf
+  accepted-content h =
+      let same : writeError r source numbers body (length output)
+      ≡ sizeError (length (messageOf r source numbers)) (16 + length (messageOf r source numbers) + length body) (length output) =
+      error-is r source numbers body (length output) ∙ rw (← of-record, h) in
+      rw (same, is-c .0, is-c .1, is-c .2, is-c .3)

@@ -1,0 +1,46 @@
+-- The tag, and the varint behind it.
+use mathlib.Core.List.{_++_}
+use Rattle.wire.specs.Writing.{putTag, putVarint}
+use Rattle.writer.proofs.Outputs.{starts, first-fits, steps, ends, wrote}
+use borrow.Author.Needs.{needs}
+use Rattle.writer.proofs.put.put_tagged.Statement.{statement}
+use Rattle.writer.proofs.put.put_tagged.Tie as tie
+
+write-tag-requires : tie.Need-write-tag-requires
+write-tag-requires c κs = search needs
+
+place-behind-requires : tie.Need-place-behind-requires
+place-behind-requires c κs = search needs
+
+write-varint-requires : tie.Need-write-varint-requires
+write-varint-requires c κs = search needs
+
+place-behind-requires-2 : tie.Need-place-behind-requires-2
+place-behind-requires-2 c κs = search needs
+
+same-length : tie.Need-same-length
+same-length c = search needs
+
+returns : tie.Need-returns
+returns c =
+    let at-place-behind = c .before .before .before .before .before in
+    let start = at-place-behind .before .before .before .before .before .before in
+    let at-varint = c .before .before .before in
+    let at-tag = c .before .before .before .before .before .before .before .before in
+    let args = start .args in
+    let all = starts (putTag (args .number) (args .wire-type) ++ putVarint (args .value)) (args .out .now) (args .at) (start .pre) in
+    let tag = wrote _ _ _ (first-fits (putTag (args .number) (args .wire-type)) (putVarint (args .value)) all) _ (at-tag .write-tag .ensures .0) _
+    (at-place-behind .place-behind .ensures) _ (at-tag .write-tag .ensures .1) in
+    let left = steps (putTag (args .number) (args .wire-type)) (putVarint (args .value)) all tag in
+    ends left (wrote _ _ _ (left .room) _ (at-varint .write-varint .ensures .0) _ (c .place-behind2 .ensures) _ (at-varint .write-varint .ensures .1))
+
+pub put-tagged-spec : {M : Type 1} → statement M
+put-tagged-spec =
+    tie.close
+    (tie.spec
+    write-tag-requires
+    place-behind-requires
+    write-varint-requires
+    place-behind-requires-2
+    same-length
+    returns)

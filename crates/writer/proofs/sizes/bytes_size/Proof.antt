@@ -1,0 +1,25 @@
+-- The tag, the length and the bytes.
+use Rattle.wire.proofs.Encoding.{varint-bounds}
+use borrow.Author.Needs.{needs}
+use native.Mathlib.Omega.{arith}
+use Rattle.writer.proofs.sizes.bytes_size.Statement.{statement}
+use Rattle.writer.proofs.sizes.bytes_size.Tie as tie
+
+tag-size-requires : tie.Need-tag-size-requires
+tag-size-requires c κs = search needs
+
+varint-len-requires : tie.Need-varint-len-requires
+varint-len-requires c κs = search needs
+
+add-result : tie.Need-add-result
+add-result c = omega (arith, c .before .tag-size .ensures, c .varint-len .ensures, varint-bounds (c .before .before .args .size))
+
+add-result-2 : tie.Need-add-result-2
+add-result-2 c = omega (arith, c .before .tag-size .ensures, c .varint-len .ensures, varint-bounds (c .before .before .args .size))
+
+returns : tie.Need-returns
+returns c = omega (arith, c .before .tag-size .ensures, c .varint-len .ensures, varint-bounds (c .before .before .args .size))
+
+pub bytes-size-spec : {M : Type 1} → statement M
+bytes-size-spec =
+    tie.close (tie.spec tag-size-requires varint-len-requires add-result add-result-2 returns)

@@ -1,0 +1,27 @@
+-- By the type.
+use mathlib.Core.Path.{ap, _∙_}
+use mir.Facts.{toZ-ofZ}
+use Rattle.wire.specs.Writing.{signExtended}
+use Rattle.writer.specs.Encoding.{wide}
+use borrow.Author.Needs.{needs}
+use Rattle.writer.proofs.sizes.widened.Statement.{statement}
+use Rattle.writer.proofs.sizes.widened.Tie as tie
+
+low-i32-requires : tie.Need-low-i32-requires
+low-i32-requires c κs = search needs
+
+sign-extend-requires : tie.Need-sign-extend-requires
+sign-extend-requires c κs = search needs
+
+returns : tie.Need-returns
+unfolding wide
+returns c =
+    rw (c .before .before .if1 .taken)
+    (c .sign-extend .ensures ∙ ap signExtended (toZ-ofZ (record { sfits = c .before .low-i32 .ok }) ∙ c .before .low-i32 .ensures))
+
+returns-2 : tie.Need-returns-2
+unfolding wide
+returns-2 c = rw (c .if1 .left)
+
+pub widened-spec : {M : Type 1} → statement M
+widened-spec = tie.close (tie.spec low-i32-requires sign-extend-requires returns returns-2)

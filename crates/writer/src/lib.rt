@@ -1,0 +1,33 @@
+// The writer of frames: what a record, the bytes that its starts refer to, its rows and a body are as one of six kinds.
+mod content;
+mod encode;
+mod entry;
+mod grounds;
+mod header;
+mod put;
+mod sizes;
+mod table;
+
+use encode::write_record;
+use message::Record;
+ghost use mathlib.Core.Path.{_≡_};
+ghost use Rattle.writer.specs.Writing.{written};
+
+// How many bytes the frame has that was written, or the error code.
+pub enum Encoded {
+    Frame(usize),
+    Refused(u32),
+}
+
+// Writes the frame of a record to the start of the output. `source` is the bytes that the starts of the record and of its rows
+// count from, and `rows` has four numbers for each row. A record that its reader refused is not written: its error code is
+// answered again.
+pub fn write(record: Record, source: &[u8], rows: &[u32], body: &[u8], out: &mut [u8]) -> Encoded
+    ensures { λ r. ⌜ (r ≡ written «record» (now (source .entry)) (now (rows .entry)) (now (body .entry)) (now (out .entry)) .answer)
+        × (now (out .exit) ≡ written «record» (now (source .entry)) (now (rows .entry)) (now (body .entry)) (now (out .entry)) .output) ⌝ }
+{
+    match record {
+        Record::Refused(code) => Encoded::Refused(code),
+        _ => write_record(record, source, rows, body, out),
+    }
+}
