@@ -20,7 +20,8 @@ use Rattle.writer.proofs.Outputs.{Left, first-fits, steps, none-left}
 no-more : (schema k : ℕ) → 12 ≤ k → drop k (itemsOf schema) ≡ []
 no-more schema k h = drop-of-length-le (itemsOf schema) {i = k} (omega (arith, few-items schema))
 
-pub item-within : (size : ℕ) (slots : List ℕ) (xs : List Item) (k : ℕ) → itemsWithin size slots xs ≡ true → itemWithin size slots (getD xs k ended) ≡ true
+pub item-within : (size : ℕ) (slots : List ℕ) (xs : List Item) (k : ℕ) → itemsWithin size slots xs ≡ true
+    → itemWithin size slots (getD xs k ended) ≡ true
 unfolding itemsWithin itemWithin
 item-within size slots [] zero e = refl
 item-within size slots [] (suc k) e = refl
@@ -101,7 +102,8 @@ module _ (n : ℕ) (l : List ℕ) (i : ℕ) (number : ℕ) where
         → Left (putBytes number (putEntry source row) ++ putRows source number (drop (suc i) (rowsIn n l))) all out₀ at₀ out at
     unfolding putRows
     next-row h row e =
-        let here : putRows source number (drop i (rowsIn n l)) ≡ putBytes number (putEntry source (rowIn l i)) ++ putRows source number (drop (suc i) (rowsIn n l)) =
+        let here : putRows source number (drop i (rowsIn n l))
+        ≡ putBytes number (putEntry source (rowIn l i)) ++ putRows source number (drop (suc i) (rowsIn n l)) =
         ap (putRows source number) (rowAt n l i h) in
         subst (λ (x : List ℕ). Left x all out₀ at₀ out at)
         (here ∙ ap (λ (x : Row). putBytes number (putEntry source x) ++ putRows source number (drop (suc i) (rowsIn n l))) (sym e))

@@ -21,7 +21,7 @@ use Rattle.message.specs.declared.Kind.{Kind}
 use Rattle.message.specs.declared.Kind.the-variants as kinds
 use Rattle.decoder.proofs.RowLaws.{length-rowsIn, rowAt}
 use Rattle.writer.specs.Grounds.{maxRows, hasMap, rowsOk, spansWithin, rowsWithin, noKey, keysDiffer, allZero, absentOk}
-use Rattle.writer.specs.Items.{items, ended, Placed, itemWithin, itemsWithin, itemZero, itemsZero}
+use Rattle.writer.specs.Items.{items, ended, Placed, itemsOf, itemWithin, itemsWithin, itemZero, itemsZero}
 use Rattle.writer.specs.declared.table.Item.{Item}
 
 -- ---- one test `t` of what is left, and `later` behind it
@@ -33,9 +33,6 @@ module _ {all here : Bool} (t later : Bool) (left : all ≡ here) (is-here : her
   goes e = left ∙ is-here ∙ ap (λ (x : Bool). x && later) e
 
 -- ---- the fields of a message
-abbrev itemsOf : (schema : ℕ) → List Item
-itemsOf schema = items (partSchema schema) (slotAt schema)
-
 -- the largest message has 12
 pub few-items : (schema : ℕ) → length (itemsOf schema) ≤ 12
 unfolding items partSchema slotAt schemaAt width

@@ -41,7 +41,8 @@ message-within size slots kinds.Close = refl
 -- the size of a content's message is its length
 pub size-is : (c : Content) (source numbers : List ℕ) → rowsWithin (length source) (rowsIn (c .rows) numbers) ≡ true
     → messageWithin (length source) (c .values) (schemaNumber (c .kind)) ≡ true
-    → (sizes : Sizes) → sizes ≡ sizesOf (rowsIn (c .rows) numbers) (c .values) (schemaNumber (c .kind)) → sizes .message ≡ length (messageIn c source numbers)
+    → (sizes : Sizes) → sizes ≡ sizesOf (rowsIn (c .rows) numbers) (c .values) (schemaNumber (c .kind))
+    → sizes .message ≡ length (messageIn c source numbers)
 size-is c source numbers in-source within sizes e =
     let rows = rowsIn (c .rows) numbers in
     ap (λ (s : Sizes). s .message) e

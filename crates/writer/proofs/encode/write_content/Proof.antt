@@ -49,7 +49,8 @@ returns c =
     let start = at-schema-number .before .before .before .before .before in
     let args = start .args in
     refused-size (args .c) (messageIn (args .c) (args .source .now) (args .rows .now)) (args .body .now) (args .out .now) _
-    (of-message (args .c) (args .source .now) (args .rows .now) (args .body .now) (args .out .now) (start .pre) _ (at-schema-number .schema-number .ensures) _ (at-message-sizes .message-sizes .ensures .0) _ (c .before .size-error .ensures))
+    (of-message (args .c) (args .source .now) (args .rows .now) (args .body .now) (args .out .now) (start .pre) _
+    (at-schema-number .schema-number .ensures) _ (at-message-sizes .message-sizes .ensures .0) _ (c .before .size-error .ensures))
     (c .if1 .taken)
 
 put-frame-requires : tie.Need-put-frame-requires
@@ -75,7 +76,8 @@ returns-2 c =
     let start = at-schema-number .before .before .before .before .before in
     let args = start .args in
     framed (args .c) (messageIn (args .c) (args .source .now) (args .rows .now)) (args .body .now) (args .out .now) _
-    (of-message (args .c) (args .source .now) (args .rows .now) (args .body .now) (args .out .now) (start .pre) _ (at-schema-number .schema-number .ensures) _ (at-message-sizes .message-sizes .ensures .0) _ (at-size-error .size-error .ensures))
+    (of-message (args .c) (args .source .now) (args .rows .now) (args .body .now) (args .out .now) (start .pre) _
+    (at-schema-number .schema-number .ensures) _ (at-message-sizes .message-sizes .ensures .0) _ (at-size-error .size-error .ensures))
     (at-if .if1 .left) (at-put-frame .put-frame .ensures)
 
 pub write-content-spec : {M : Type 1} → statement M

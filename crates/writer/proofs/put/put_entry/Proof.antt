@@ -62,8 +62,11 @@ put-span-requires c κs =
     let at-put-tagged = c .before .before .before in
     let at-entry-size = at-put-tagged .before .before in
     let start = at-entry-size .before .before .before in
-    let args = start .args in
-    (start .pre .0 .0, key-fits (args .number) (args .source .now) (rowOf (args .e)) (args .out .now) (args .at) (start .pre) _ (at-entry-size .entry-size .ensures .0) (at-put-tagged .put-tagged .ensures))
+    let args = start .args in (
+      start .pre .0 .0,
+      key-fits (args .number) (args .source .now) (rowOf (args .e)) (args .out .now) (args .at) (start .pre) _
+          (at-entry-size .entry-size .ensures .0) (at-put-tagged .put-tagged .ensures),
+    )
 
 put-span-requires-2 : tie.Need-put-span-requires-2
 put-span-requires-2 c κs =
@@ -71,8 +74,11 @@ put-span-requires-2 c κs =
     let at-put-tagged = at-put-span .before .before .before .before in
     let at-entry-size = at-put-tagged .before .before in
     let start = at-entry-size .before .before .before in
-    let args = start .args in
-    (start .pre .0 .1, value-fits (args .number) (args .source .now) (rowOf (args .e)) (args .out .now) (args .at) (start .pre) _ (at-entry-size .entry-size .ensures .0) (at-put-tagged .put-tagged .ensures) (at-put-span .put-span .ensures))
+    let args = start .args in (
+      start .pre .0 .1,
+      value-fits (args .number) (args .source .now) (rowOf (args .e)) (args .out .now) (args .at) (start .pre) _
+          (at-entry-size .entry-size .ensures .0) (at-put-tagged .put-tagged .ensures) (at-put-span .put-span .ensures),
+    )
 
 same-length : tie.Need-same-length
 same-length c = search needs

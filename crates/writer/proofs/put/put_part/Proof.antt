@@ -62,8 +62,12 @@ put-fields-requires c κs =
     let at-put-tagged = c .before .before .before in
     let at-if = at-put-tagged .before .before in
     let start = at-if .before .before .before .before in
-    let args = start .args in
-    (start .pre .0, start .pre .1, fields-fit (args .source .now) _ _ (start .pre .0 .within) (args .schema) (start .pre .1) (args .number) (args .mark) (at-if .if1 .left) (args .size) (start .pre .2) (args .out .now) (args .at) (start .pre .3) (at-put-tagged .put-tagged .ensures))
+    let args = start .args in (
+      start .pre .0,
+      start .pre .1,
+      fields-fit (args .source .now) _ _ (start .pre .0 .within) (args .schema) (start .pre .1)
+          (args .number) (args .mark) (at-if .if1 .left) (args .size) (start .pre .2) (args .out .now) (args .at) (start .pre .3) (at-put-tagged .put-tagged .ensures),
+    )
 
 same-length : tie.Need-same-length
 same-length c = search needs

@@ -49,8 +49,11 @@ loop-again : tie.Need-loop-again Inv-loop μ-loop
 loop-again c =
     let at-put-entry = c .before .before in
     let at-entry-at = at-put-entry .before .before in
-    let at-test = c .before .before .before .before .before in
-    (omega arith, put-row _ _ _ _ _ (at-test .before .loop .inv .1) (at-test .loop-test .taken) _ (at-entry-at .entry-at .ensures) (at-put-entry .put-entry .ensures))
+    let at-test = c .before .before .before .before .before in (
+      omega arith,
+      put-row _ _ _ _ _ (at-test .before .loop .inv .1) (at-test .loop-test .taken) _ (at-entry-at .entry-at .ensures)
+          (at-put-entry .put-entry .ensures),
+    )
 
 same-length : tie.Need-same-length Inv-loop μ-loop
 same-length c = c .before .loop .inv .1 .same-length
