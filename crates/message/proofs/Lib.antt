@@ -1,5 +1,6 @@
--- Demand 3 whole, and document 01's examples
+-- Demand 3 whole, that spans name the parts, and document 01's examples
 pub mod FaithfulReading
+pub mod SpansStand
 pub mod Examples
 -- For the layers above
 pub mod Readings

@@ -5,6 +5,7 @@ use mathlib.Core.List.{List, [], _++_}
 use native.Mathlib.Omega.{arith}
 use borrow.Author.Tests.{le-leb, lt-leb}
 use lib.ListN.{length, drop, replicate, length-drop}
+use lib.Seq.{length-take-le}
 use Rattle.frame.specs.Header.{headerSizeOf, idOf}
 use Rattle.wire.specs.Part.{part}
 use Rattle.decoder.specs.Rows.{Row, rowNumbers, laidOut, cleared}
@@ -16,6 +17,7 @@ use Rattle.decoder.proofs.PartEnds.{part-rest}
 use Rattle.decoder.proofs.Answers.{Gives, Read, Decodes, decodes, all-cleared}
 use Rattle.message.specs.Records.{schemaOf, recordOf, attachmentSizeOf}
 use Rattle.message.specs.Frames.{Reading, headerOf, bodyOf, lastOf, untouched, finished, answered, readFrame}
+use Rattle.message.specs.Spans.{spanFrom}
 use Rattle.message.specs.Parts.{PartsOf, noParts, bodyAt, Whole}
 use Rattle.message.specs.declared.Kind.{Kind}
 use Rattle.message.specs.declared.Record.{Record}
@@ -25,7 +27,15 @@ use Rattle.message.proofs.PartPlaces.{frame-size, within, header-part, 
 
 -- ---- a refusal
 none : (code : ℕ) (f numbers : List ℕ) → PartsOf (untouched code numbers) f (noParts code) numbers
-none code f numbers = record { answer-is = refl; header-is = refl; body-is = refl; attachment-is = refl; rows-are = refl }
+none code f numbers =
+    record {
+      answer-is = refl;
+      header-is = refl;
+      body-is = refl;
+      attachment-is = refl;
+      rows-are = refl;
+      placed = record { small = omega arith; header-at = refl; body-at = refl; attachment-at = refl };
+    }
 
 pub refusal : {x : Reading} {f numbers : List ℕ} {p : Parts} {code : ℕ} → x ≡ untouched code numbers → p ≡ noParts code → PartsOf x f p numbers
 refusal {f} {numbers} {p} {code} e g =
@@ -78,6 +88,12 @@ same-record : (kind : Kind) {id id′ rows rows′ : ℕ} {slots slots′ : List
     → recordOf kind id slots rows ≡ recordOf kind id′ slots′ rows′
 same-record kind e g h = cc
 
+-- the span of a part that ends with the frame
+end-span : {size start n : ℕ} → start ≤ size → n ≡ size - start → spanFrom start (size - start) ≡ spanFrom (size - n) n
+end-span {size} {start} {n} h e =
+    let g : start ≡ size - n = omega arith in
+    rw (← e, ← g) refl
+
 -- ---- the reading of a whole frame: the code's body place, schema number, and what the decoder answered
 module _ (kind : Kind) (f lent : List ℕ) (size id body n : ℕ) (d : Decoded) (numbers : List ℕ)
     (rows : rowNumbers ≤ length lent) (whole : Whole kind f size id) (body-is : body ≡ bodyAt kind size (length f)) (schema-is : schemaAt n ≡ schemaOf kind)
@@ -93,6 +109,12 @@ module _ (kind : Kind) (f lent : List ℕ) (size id body n : ℕ) (d : Decoded) 
 
   body-length : length (bodyOf kind f) ≡ length f - body
   body-length = ap length rest ∙ length-drop body f
+
+  bounds : (16 ≤ body) × (body ≤ length f)
+  bounds = within kind f size id whole body body-is
+
+  header-length : length (headerOf kind f) ≡ body - 16
+  header-length = sym (ap length head) ∙ length-take-le (body - 16) (drop 16 f) (omega (arith, length-drop 16 f, bounds))
 
   result : Result
   result = readMessage f (schemaOf kind) 16 (headerOf kind f)
@@ -135,6 +157,15 @@ module _ (kind : Kind) (f lent : List ℕ) (size id body n : ℕ) (d : Decoded) 
         answer-is = is-r ∙ same-record kind (whole .id-is) (ap values-of (k .answer-is)) (ap rows-of (k .answer-is));
         header-is = head;
         body-is = part-rest f body ∙ sym rest;
-        attachment-is = last-rest f body a (within kind f size id whole body body-is .1) fits ∙ rw (a-is, rest);
+        attachment-is = last-rest f body a (bounds .1) fits ∙ rw (a-is, rest);
         rows-are = k .laid;
+        placed = record {
+          small = omega (arith, bounds, frame-size kind f size id whole);
+          header-at = ap (spanFrom 16) (sym header-length);
+          body-at = end-span (bounds .1) body-length;
+          attachment-at =
+              end-span
+              (omega arith)
+              (length-drop (length (bodyOf kind f) - attachmentSizeOf kind (st .slots)) (bodyOf kind f) ∙ omega (arith, body-length, a-is, bounds));
+        };
       })

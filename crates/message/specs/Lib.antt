@@ -1,5 +1,6 @@
 -- What the contracts of `message` cite, in the order of document 01, "The messages", and demand 3 whole
 pub mod Records
 pub mod Frames
+pub mod Spans
 pub mod Parts
 pub mod Stream

@@ -1,16 +1,25 @@
 -- What the places say that the reader's core answers with
-use Prim.Native.Nat.{ℕ, _+_}
+use Prim.Native.Nat.{ℕ, _+_, _-_, _≤_}
 use mathlib.Core.Path.{_≡_}
 use mathlib.Core.Bool.{true}
 use mathlib.Core.List.{List}
 use lib.ListN.{length, take, getD}
-use Rattle.frame.specs.Header.{headerError, totalOf, headerSizeOf, idOf}
+use Rattle.frame.specs.Header.{maxFrame, headerError, totalOf, headerSizeOf, idOf}
 use Rattle.wire.specs.Part.{part}
 use Rattle.message.specs.Frames.{Reading, kindFits}
+use Rattle.message.specs.Spans.{spanFrom, spansOf}
 use Rattle.message.specs.declared.Kind.{Kind}
 use Rattle.message.specs.declared.Kind.the-variants as kinds
 use Rattle.message.specs.declared.Record.the-variants.{Refused}
 use Rattle.message.specs.declared.frames.Parts.{Parts}
+use Rattle.message.specs.declared.frames.Places.{Places}
+
+-- The places p are those of the spans of the reading x of a frame of that size.
+pub record Placed (x : Reading) (size : ℕ) (p : Places) : Type 0 where
+  pub small : (p .body ≤ maxFrame) × (p .end ≤ maxFrame)
+  pub header-at : spanFrom (p .header) (p .body - p .header) ≡ spansOf x size .header
+  pub body-at : spanFrom (p .body) (p .end - p .body) ≡ spansOf x size .body
+  pub attachment-at : spanFrom (p .attachment) (p .end - p .attachment) ≡ spansOf x size .attachment
 
 -- The parts of the frame f at the places p, with the record and the row numbers, are the reading x.
 pub record PartsOf (x : Reading) (f : List ℕ) (p : Parts) (numbers : List ℕ) : Type 0 where
@@ -19,6 +28,7 @@ pub record PartsOf (x : Reading) (f : List ℕ) (p : Parts) (numbers : List ℕ)
   pub body-is : part f (p .places .body) (p .places .end) ≡ x .body
   pub attachment-is : part f (p .places .attachment) (p .places .end) ≡ x .attachment
   pub rows-are : numbers ≡ x .rows
+  pub placed : Placed x (length f) (p .places)
 
 -- a refusal has no parts
 abbrev pub noParts : (code : ℕ) → Parts

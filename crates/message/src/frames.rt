@@ -2,6 +2,7 @@
 use crate::Kind;
 use crate::Reading;
 use crate::Record;
+use crate::Span;
 use crate::records::attachment_size;
 use crate::records::record_of;
 use decoder::ROW_NUMBERS;
@@ -12,16 +13,17 @@ use frame::HEADER;
 use frame::Parsed;
 use frame::parse_header;
 ghost use mathlib.Core.Path.{_≡_};
-ghost use Prim.Native.Nat.{_+_, _≤_};
+ghost use Prim.Native.Nat.{_+_, _-_, _≤_};
 ghost use lib.ListN.{length, take};
 ghost use lib.Dec.{eqb};
 ghost use mathlib.Core.Bool.{_&&_};
-ghost use Rattle.frame.specs.Header.{parsed};
+ghost use Rattle.frame.specs.Header.{maxFrame, parsed};
 ghost use Rattle.frame.specs.declared.Parsed.the-variants.{Good};
 ghost use Rattle.wire.specs.Part.{part};
 ghost use Rattle.message.specs.Frames.{kindFits, readFrame};
 ghost use Rattle.decoder.specs.Rows.{rowNumbers};
 ghost use Rattle.message.specs.Records.{schemaOf};
+ghost use Rattle.message.specs.Spans.{spanFrom};
 ghost use Rattle.decoder.specs.Decoding.{schemaAt};
 ghost use Rattle.message.specs.Parts.{PartsOf, noParts, bodyAt, Whole};
 
@@ -126,7 +128,7 @@ fn read_message(kind: Kind, frame: &[u8], header_size: usize, id: u32, rows: &mu
         return refused(15);
     }
     Parts {
-        answer: record_of(kind, id, slots),
+        answer: record_of(kind, id, values, slots.rows as u32),
         places: Places {
             header: HEADER,
             body,
@@ -164,6 +166,20 @@ pub(crate) fn read_parts(kind: Kind, frame: &[u8], rows: &mut [u32]) -> Parts
     match fixed {
         Parsed::Refused(code) => refused(code),
         Parsed::Good(header) => read_whole(kind, frame, header, rows),
+    }
+}
+
+// The part from one place up to another as a start and a length.
+pub(crate) fn span(start: usize, end: usize) -> Span
+    requires { ⌜ end ≤ maxFrame ⌝ }
+    ensures { λ r. ⌜ r ≡ spanFrom start (end - start) ⌝ }
+{
+    if end <= start {
+        return Span { start: 0, len: 0 };
+    }
+    Span {
+        start: start as u32,
+        len: (end - start) as u32,
     }
 }
 

@@ -1,11 +1,14 @@
 // The tRPC messages: what a frame says, read as one of six kinds.
 mod frames;
-mod records;
+pub mod records;
 
 use frames::read_parts;
 use frames::reading_of;
+use frames::span;
 ghost use mathlib.Core.Path.{_≡_};
+ghost use lib.ListN.{length};
 ghost use Rattle.message.specs.Frames.{readFrame};
+ghost use Rattle.message.specs.Spans.{spansOf};
 
 // What the caller expects a frame to be. A unary frame does not say whether it is a request or a response.
 pub enum Kind {
@@ -129,4 +132,28 @@ pub fn read<'a, 'b>(kind: Kind, frame: &'a [u8], rows: &'b mut [u32]) -> Reading
 {
     let parts = read_parts(kind, frame, rows);
     reading_of(frame, parts.answer, parts.places)
+}
+
+// What a frame reads as, with its parts as starts and lengths; an empty one is 0, 0.
+pub struct Located {
+    pub record: Record,
+    pub header: Span,
+    pub body: Span,
+    pub attachment: Span,
+}
+
+// As `read`, for a caller that can hold no part of the frame.
+pub fn read_spans(kind: Kind, frame: &[u8], rows: &mut [u32]) -> Located
+    ensures { λ r. ⌜ (r ≡ spansOf (readFrame kind (now (frame .entry)) (now (rows .entry))) (length (now (frame .entry))))
+        × (now (rows .exit) ≡ readFrame kind (now (frame .entry)) (now (rows .entry)) .rows) ⌝ }
+{
+    let parts = read_parts(kind, frame, rows);
+    let record = parts.answer;
+    let places = parts.places;
+    Located {
+        record,
+        header: span(places.header, places.body),
+        body: span(places.body, places.end),
+        attachment: span(places.attachment, places.end),
+    }
 }

@@ -10,19 +10,14 @@ use crate::RequestMeta;
 use crate::Response;
 use crate::ResponseMeta;
 use crate::Span;
-use decoder::Slots;
 ghost use mathlib.Core.Path.{_≡_};
-ghost use Prim.Native.Nat.{_≤_};
 ghost use Rattle.wire.specs.Varint.{lowI32};
 ghost use Rattle.message.specs.Records.{requestMetaOf, responseMetaOf, recordOf, attachmentSizeOf};
 
-// The record of a message that was read.
-pub(crate) fn record_of(kind: Kind, id: u32, slots: Slots) -> Record
-    requires { ⌜ slots .rows ≤ 64 ⌝ }
-    ensures { λ r. ⌜ r ≡ recordOf kind id (slots .values) (slots .rows) ⌝ }
+// The record of a message whose slots have these values, with that many rows.
+pub fn record_of(kind: Kind, id: u32, v: [u32; 16], rows: u32) -> Record
+    ensures { λ r. ⌜ r ≡ recordOf kind id v rows ⌝ }
 {
-    let v = slots.values;
-    let rows = slots.rows as u32;
     match kind {
         Kind::Request => request_of(id, v, rows),
         Kind::Response => response_of(id, v, rows),

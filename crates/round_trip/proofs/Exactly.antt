@@ -13,8 +13,8 @@ use Rattle.frame.specs.Header.{maxFrame}
 use Rattle.message.specs.Records.{attachmentSizeOf}
 use Rattle.message.specs.declared.Record.{Record}
 use Rattle.message.specs.declared.Record.the-variants as records
-use Rattle.writer.specs.Content.{kindOf, recordId, rowCount, slotsOf}
-use Rattle.writer.specs.Grounds.{maxRows, hasMap, rowsOk}
+use Rattle.outgoing.specs.Content.{kindOf, recordId, rowCount, slotsOf}
+use Rattle.outgoing.specs.Grounds.{maxRows, hasMap, rowsOk}
 use Rattle.writer.specs.Writing.{rowsOf, messageOf, frameOf, maxHeader, writeError, refusedWith, writtenBy, written}
 use Rattle.round_trip.specs.Refusals.{Ground, ground, First, hasBody, groundsOf, grounds, Exactly}
 use Rattle.round_trip.proofs.FrameBack.{frame-length}

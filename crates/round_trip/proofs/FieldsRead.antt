@@ -16,7 +16,7 @@ use Rattle.decoder.specs.Rows.{Row}
 use Rattle.decoder.specs.Fields.{State, ok, blank, Reader, aNumber, someBytes, anEntry, look, setSlot, setBytes, addEntry, fieldsIn}
 use Rattle.decoder.specs.DecoderState.{taken, startOf}
 use Rattle.writer.specs.Encoding.{wide, putNumber, putSome, putEntry, putRows}
-use Rattle.writer.specs.Grounds.{keysDiffer}
+use Rattle.outgoing.specs.Grounds.{keysDiffer}
 use Rattle.round_trip.proofs.Written.{reads, headSize, length-bytes, number-step, bytes-step}
 use Rattle.round_trip.proofs.Landing.{zeros, numberAt, keyOf, valueOf, entryRow, rowsAt}
 use Rattle.round_trip.proofs.Keys.{enter-new}

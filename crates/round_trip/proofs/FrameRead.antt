@@ -13,7 +13,7 @@ use Rattle.message.specs.declared.Kind.{Kind}
 use Rattle.message.specs.declared.Record.{Record}
 use Rattle.decoder.proofs.RowLaws.{rowsIn-flat, laid-split, length-rowsIn}
 use Rattle.message.proofs.Readings.{its-message}
-use Rattle.writer.specs.Content.{kindOf, recordId, rowCount, slotsOf}
+use Rattle.outgoing.specs.Content.{kindOf, recordId, rowCount, slotsOf}
 use Rattle.writer.specs.Writing.{headerSize, fixedHeader, rowsOf, messageOf, frameOf}
 use Rattle.round_trip.specs.Meaning.{Said, fieldsOf, Pair, pairsOf, InRange, says, saying, meaning}
 use Rattle.round_trip.specs.Statement.{ReadsBack}

@@ -18,7 +18,7 @@ use Rattle.message.specs.declared.Kind.{Kind}
 use Rattle.message.specs.declared.Kind.the-variants as kinds
 use Rattle.message.specs.declared.Record.{Record}
 use Rattle.message.specs.declared.Record.the-variants.{Request, Response, Init, Data, Feedback, Close, Refused}
-use Rattle.writer.specs.Content.{kindOf, recordId, rowCount, bits, mark, slotsOf}
+use Rattle.outgoing.specs.Content.{kindOf, recordId, rowCount, bits, mark, slotsOf}
 use Rattle.round_trip.specs.Meaning.{Said, unsigned, signed, present, text, fieldsOf, InRange, pairsOf, says, meaning}
 use Rattle.round_trip.proofs.Said.{saidIn}
 

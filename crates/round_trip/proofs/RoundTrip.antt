@@ -12,7 +12,7 @@ use native.Mathlib.Omega.{arith}
 use lib.ListN.{length, take}
 use Rattle.message.specs.declared.Record.{Record}
 use Rattle.message.specs.declared.Record.the-variants as records
-use Rattle.writer.specs.Content.{recordId}
+use Rattle.outgoing.specs.Content.{recordId}
 use Rattle.writer.specs.Writing.{frameOf, writeError, writtenBy, written}
 use Rattle.writer.specs.declared.Encoded.the-variants.{Frame}
 use Rattle.round_trip.specs.Meaning.{fieldsOf, InRange, saying, meaning}

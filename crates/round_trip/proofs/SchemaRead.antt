@@ -17,7 +17,7 @@ use Rattle.decoder.specs.Rows.{Row}
 use Rattle.decoder.specs.Fields.{State, Target, aNumber, someBytes, anEntry, aMessage, look, setSlot, fieldsIn}
 use Rattle.decoder.specs.DecoderState.{taken, startOf}
 use Rattle.writer.specs.Encoding.{putNumber, putSome, putRows, putFields}
-use Rattle.writer.specs.Grounds.{keysDiffer}
+use Rattle.outgoing.specs.Grounds.{keysDiffer}
 use Rattle.round_trip.specs.Meaning.{Said, unsigned, signed, present, text, InRange}
 use Rattle.round_trip.proofs.Said.{saidIn}
 use Rattle.round_trip.proofs.Formed.{Formed}

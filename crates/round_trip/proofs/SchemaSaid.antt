@@ -16,7 +16,7 @@ use Rattle.decoder.specs.Rows.{Row}
 use Rattle.decoder.specs.Fields.{partOf}
 use Rattle.decoder.specs.DecoderState.{startOf}
 use Rattle.writer.specs.Encoding.{putNumber, putSome, putEntry, putRows, putFields}
-use Rattle.writer.specs.Grounds.{allZero, absentOk}
+use Rattle.outgoing.specs.Grounds.{allZero, absentOk}
 use Rattle.round_trip.specs.Meaning.{Said, unsigned, signed, Pair, pairsOf}
 use Rattle.round_trip.proofs.Said.{saidIn, hasRows, kept}
 use Rattle.round_trip.proofs.Formed.{hasParts, Formed}

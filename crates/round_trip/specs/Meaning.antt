@@ -10,7 +10,7 @@ use Rattle.message.specs.declared.Kind.{Kind}
 use Rattle.message.specs.declared.Span.{Span}
 use Rattle.message.specs.declared.Record.{Record}
 use Rattle.message.specs.declared.Record.the-variants.{Request, Response, Init, Data, Feedback, Close, Refused}
-use Rattle.writer.specs.Content.{kindOf, recordId, rowCount}
+use Rattle.outgoing.specs.Content.{kindOf, recordId, rowCount}
 
 -- a number, a present mark, or the bytes of a byte field
 pub data Said : Type 0 where

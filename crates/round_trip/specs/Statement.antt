@@ -5,7 +5,7 @@ use mathlib.Core.List.{List}
 use Rattle.message.specs.Records.{attachmentSizeOf}
 use Rattle.message.specs.Frames.{Reading, readFrame, lastOf}
 use Rattle.message.specs.declared.Record.{Record}
-use Rattle.writer.specs.Content.{kindOf, slotsOf}
+use Rattle.outgoing.specs.Content.{kindOf, slotsOf}
 use Rattle.writer.specs.Writing.{messageOf}
 use Rattle.round_trip.specs.Meaning.{meaning}
 

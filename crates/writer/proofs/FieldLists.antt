@@ -11,9 +11,10 @@ use Rattle.decoder.specs.Rows.{Row, rowsIn}
 use Rattle.decoder.proofs.RowLaws.{length-rowsIn, rowAt}
 use Rattle.frame.proofs.Codes.{both}
 use Rattle.writer.specs.Encoding.{putEntry, putRows}
-use Rattle.writer.specs.Items.{ended, itemsOf, Puts, putItem, putItems, bytesSize, entrySize, rowsSize, itemSize, itemsSize, itemWithin, itemsWithin, rowAt as rowIn}
-use Rattle.writer.specs.declared.table.Item.{Item}
-use Rattle.writer.proofs.GroundLaws.{few-items}
+use Rattle.outgoing.specs.Items.{ended, itemsOf, itemWithin, itemsWithin}
+use Rattle.writer.specs.Items.{Puts, putItem, putItems, bytesSize, entrySize, rowsSize, itemSize, itemsSize, rowAt as rowIn}
+use Rattle.outgoing.specs.declared.Item.{Item}
+use Rattle.outgoing.proofs.GroundLaws.{few-items}
 use Rattle.writer.proofs.Outputs.{Left, first-fits, steps, none-left}
 
 -- ---- fields

@@ -9,9 +9,10 @@ use Rattle.decoder.specs.Schema.{uint32, int32}
 use Rattle.decoder.specs.Rows.{Row}
 use Rattle.decoder.specs.Fields.{partOf}
 use Rattle.writer.specs.Encoding.{putNumber, putSome, putRows}
-use Rattle.writer.specs.Items.{putItem, itemSize, sizeIf, rowsSize, itemWithin}
-use Rattle.writer.specs.declared.table.Item.{Item}
-use Rattle.writer.specs.declared.table.Item.the-variants as item
+use Rattle.outgoing.specs.Items.{itemWithin}
+use Rattle.writer.specs.Items.{putItem, itemSize, sizeIf, rowsSize}
+use Rattle.outgoing.specs.declared.Item.{Item}
+use Rattle.outgoing.specs.declared.Item.the-variants as item
 
 module _ (rows : List Row) (slots : List ℕ) {x : Item} where
   module _ (source : List ℕ) where

@@ -12,10 +12,11 @@ use Rattle.decoder.specs.Rows.{Row}
 use Rattle.decoder.specs.Fields.{partOf}
 use Rattle.frame.proofs.Codes.{both}
 use Rattle.writer.specs.Encoding.{putSome, putEntry, putRows}
-use Rattle.writer.specs.Grounds.{rowsWithin}
-use Rattle.writer.specs.Items.{RowIn, putItem, putItems, putPart, putInit, putMessage, itemsOf, bytesSize, entrySize, rowsSize, itemSize, itemsSize, sizeIf, initSizes, sizesOf, itemWithin, itemsWithin, initWithin, messageWithin}
-use Rattle.writer.specs.declared.table.Item.{Item}
-use Rattle.writer.specs.declared.table.Item.the-variants as item
+use Rattle.outgoing.specs.Grounds.{rowsWithin}
+use Rattle.outgoing.specs.Items.{itemsOf, itemWithin, itemsWithin}
+use Rattle.writer.specs.Items.{RowIn, putItem, putItems, putPart, putInit, putMessage, bytesSize, entrySize, rowsSize, itemSize, itemsSize, sizeIf, initSizes, sizesOf, initWithin, messageWithin}
+use Rattle.outgoing.specs.declared.Item.{Item}
+use Rattle.outgoing.specs.declared.Item.the-variants as item
 
 pub part-length : (source : List ℕ) (at size : ℕ) → at + size ≤ length source → length (partOf source at size) ≡ size
 part-length source at size h = omega (arith, length-take size (drop at source), length-drop at source)

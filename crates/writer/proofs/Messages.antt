@@ -12,9 +12,10 @@ use Rattle.message.specs.Records.{schemaOf}
 use Rattle.message.specs.declared.Kind.{Kind}
 use Rattle.message.specs.declared.Kind.the-variants as kinds
 use Rattle.writer.specs.Encoding.{putFields}
-use Rattle.writer.specs.Grounds.{spansWithin, rowsWithin}
-use Rattle.writer.specs.Items.{items, putItem, putItems, putInit, putMessage, itemWithin, itemsWithin, initWithin, messageWithin, schemaNumber, sizesOf, messageIn}
-use Rattle.writer.specs.declared.content.Content.{Content}
+use Rattle.outgoing.specs.Grounds.{spansWithin, rowsWithin}
+use Rattle.outgoing.specs.Items.{items, itemWithin, itemsWithin, schemaNumber}
+use Rattle.writer.specs.Items.{putItem, putItems, putInit, putMessage, initWithin, messageWithin, sizesOf, messageIn}
+use Rattle.outgoing.specs.declared.Content.{Content}
 use Rattle.writer.specs.declared.sizes.Sizes.{Sizes}
 use Rattle.writer.proofs.Lengths.{message-length}
 

@@ -13,12 +13,13 @@ use Rattle.wire.specs.Writing.{stored}
 use Rattle.message.specs.Records.{schemaOf}
 use Rattle.message.specs.declared.Kind.{Kind}
 use Rattle.message.specs.declared.Record.{Record}
-use Rattle.writer.specs.Content.{kindOf, recordId, rowCount, slotsOf}
-use Rattle.writer.specs.Grounds.{rowsOk, spansWithin, rowsWithin, keysDiffer, absentOk, bodyOk}
+use Rattle.outgoing.specs.Content.{kindOf, recordId, rowCount, slotsOf}
+use Rattle.outgoing.specs.Grounds.{rowsOk, spansWithin, rowsWithin, keysDiffer, absentOk, bodyOk}
 use Rattle.writer.specs.Writing.{maxHeader, headerSize, fixedHeader, rowsOf, messageOf, frameOf, writeError, writtenBy}
-use Rattle.writer.specs.Items.{contentError, sizeError, Puts, messageIn, frameWith, writtenWith}
+use Rattle.outgoing.specs.Grounds.{contentError}
+use Rattle.writer.specs.Items.{sizeError, Puts, messageIn, frameWith, writtenWith}
 use Rattle.writer.specs.declared.Encoded.the-variants.{Frame, Refused}
-use Rattle.writer.specs.declared.content.Content.{Content}
+use Rattle.outgoing.specs.declared.Content.{Content}
 
 -- the first error, else the second
 abbrev pub orElse : ℕ → ℕ → ℕ

@@ -1,6 +1,6 @@
--- What the writer's private functions promise each other: the fields of a message as a list, and what is written of each. No sentence of the paper is
+-- What the writer's private functions promise each other: what is written of each field of a message, as a list. No sentence of the paper is
 -- here; `proofs` has the laws that it agrees with `Encoding` and `Grounds`.
-use Prim.Native.Nat.{ℕ, _+_, _*_, _<_, _≤_}
+use Prim.Native.Nat.{ℕ, _+_, _*_, _≤_}
 use mathlib.Core.Path.{_≡_}
 use mathlib.Core.Bool.{Bool, true, false, cond, _&&_}
 use mathlib.Core.List.{List, [], _∷_, _++_}
@@ -9,46 +9,20 @@ use lib.Dec.{leb, eqb}
 use Rattle.wire.specs.Writing.{putVarint, putTag, putBytes, stored}
 use Rattle.wire.specs.declared.Written.{Written}
 use Rattle.wire.specs.declared.Written.the-variants as writes
-use Rattle.decoder.specs.Schema.{Integer, uint32, int32, Schema, done, number, bytes, map, message, width}
+use Rattle.decoder.specs.Schema.{Integer, uint32, int32}
 use Rattle.decoder.specs.Rows.{Row, rowsIn}
 use Rattle.decoder.specs.Fields.{partOf}
 use Rattle.frame.specs.Header.{maxFrame, unless}
-use Rattle.decoder.specs.DecoderState.{partSchema, slotAt}
 use Rattle.message.specs.Records.{schemaOf}
-use Rattle.message.specs.declared.Kind.{Kind}
-use Rattle.message.specs.declared.Kind.the-variants as kinds
 use Rattle.writer.specs.Encoding.{putNumber, putSome, putRows, putFields}
-use Rattle.writer.specs.Grounds.{rowsOk, spansWithin, rowsWithin, keysDiffer, absentOk, bodyOk}
+use Rattle.outgoing.specs.Grounds.{rowsWithin}
+use Rattle.outgoing.specs.Items.{itemsOf, itemsWithin}
 use Rattle.writer.specs.Writing.{maxHeader, headerSize, fixedHeader, Writing, refusedWith, wrote}
-use Rattle.writer.specs.declared.content.Content.{Content}
+use Rattle.outgoing.specs.declared.Content.{Content}
 use Rattle.writer.specs.declared.entry.MapEntry.{MapEntry}
 use Rattle.writer.specs.declared.sizes.Sizes.{Sizes}
-use Rattle.writer.specs.declared.table.Item.{Item}
-use Rattle.writer.specs.declared.table.Item.the-variants as item
-
-abbrev pub ended : Item
-ended = item.End
-
--- the fields of a schema whose first slot is i; a message in it is passed over, with its slots
-unfoldable pub items : Schema → (i : ℕ) → List Item
-items done i = []
-items (number uint32 n name more) i = item.Unsigned n i ∷ items more (i + 1)
-items (number int32 n name more) i = item.Signed n i ∷ items more (i + 1)
-items (bytes n name more) i = item.Bytes n i ∷ items more (i + 2)
-items (map n name more) i = item.Map n ∷ items more i
-items (message n name inner more) i = items more (i + 1 + width inner)
-
--- its slots exist
-abbrev pub Placed : Item → Type 0
-Placed (item.Unsigned n i) = i < 16
-Placed (item.Signed n i) = i < 16
-Placed (item.Bytes n i) = i + 1 < 16
-Placed (item.Map n) = Unit {0}
-Placed item.End = Unit {0}
-
--- the fields of the message that a schema number names
-abbrev pub itemsOf : (schema : ℕ) → List Item
-itemsOf schema = items (partSchema schema) (slotAt schema)
+use Rattle.outgoing.specs.declared.Item.{Item}
+use Rattle.outgoing.specs.declared.Item.the-variants as item
 
 abbrev pub integerOf : (signed : Bool) → Integer
 integerOf true = int32
@@ -92,15 +66,6 @@ putItem source rows slots item.End = []
 unfoldable pub putItems : (source : List ℕ) → List Row → (slots : List ℕ) → List Item → List ℕ
 putItems source rows slots [] = []
 putItems source rows slots (x ∷ xs) = putItem source rows slots x ++ putItems source rows slots xs
-
--- the number of a kind's message
-abbrev pub schemaNumber : Kind → ℕ
-schemaNumber kinds.Request = 0
-schemaNumber kinds.Response = 1
-schemaNumber kinds.Init = 2
-schemaNumber kinds.Data = 3
-schemaNumber kinds.Feedback = 4
-schemaNumber kinds.Close = 5
 
 -- a part of Init
 abbrev pub putPart : (n mark : ℕ) → (content : List ℕ) → List ℕ
@@ -173,17 +138,6 @@ abbrev pub mostMessage : ℕ
 mostMessage = 140737488355328
 
 -- ---- the grounds
-unfoldable pub itemWithin : (size : ℕ) → (slots : List ℕ) → Item → Bool
-itemWithin size slots (item.Unsigned n i) = true
-itemWithin size slots (item.Signed n i) = true
-itemWithin size slots (item.Bytes n i) = leb (getD slots i 0 + getD slots (i + 1) 0) size
-itemWithin size slots (item.Map n) = true
-itemWithin size slots item.End = true
-
-unfoldable pub itemsWithin : (size : ℕ) → (slots : List ℕ) → List Item → Bool
-itemsWithin size slots [] = true
-itemsWithin size slots (x ∷ xs) = itemWithin size slots x && itemsWithin size slots xs
-
 unfoldable pub initWithin : (size : ℕ) → (slots : List ℕ) → Bool
 initWithin size slots =
     itemsWithin size slots (itemsOf 6) && (itemsWithin size slots (itemsOf 7) && itemsWithin size slots (itemsOf 2))
@@ -192,29 +146,7 @@ initWithin size slots =
 abbrev pub messageWithin : (size : ℕ) → (slots : List ℕ) → (schema : ℕ) → Bool
 messageWithin size slots schema = cond (eqb schema 2) (initWithin size slots) (itemsWithin size slots (itemsOf schema))
 
-unfoldable pub itemZero : List Row → (slots : List ℕ) → Item → Bool
-itemZero rows slots (item.Unsigned n i) = eqb (getD slots i 0) 0
-itemZero rows slots (item.Signed n i) = eqb (getD slots i 0) 0
-itemZero rows slots (item.Bytes n i) = eqb (getD slots (i + 1) 0) 0
-itemZero rows slots (item.Map n) = eqb (length rows) 0
-itemZero rows slots item.End = true
-
-unfoldable pub itemsZero : List Row → (slots : List ℕ) → List Item → Bool
-itemsZero rows slots [] = true
-itemsZero rows slots (x ∷ xs) = itemZero rows slots x && itemsZero rows slots xs
-
--- ---- the refusals in two steps
--- those that need no size: 18's first three grounds, 17, 18's others, 15
-unfoldable pub contentError : Kind → (slots : List ℕ) → (count : ℕ) → (source numbers : List ℕ) → (bodySize : ℕ) → ℕ
-contentError kind slots count source numbers bodySize =
-    unless (rowsOk kind count (length numbers)) 18
-    (unless (spansWithin (length source) (schemaOf kind) 0 slots) 17
-    (unless (rowsWithin (length source) (rowsIn count numbers)) 17
-    (unless (keysDiffer source (rowsIn count numbers)) 18
-    (unless (absentOk (rowsIn count numbers) (schemaOf kind) 0 slots) 18
-    (unless (bodyOk kind slots bodySize) 15
-    0)))))
-
+-- ---- the refusals in two steps: `contentError` (crate `outgoing`), and then
 -- those of the sizes of the message and of the frame: 19, 20, 27
 unfoldable pub sizeError : (size total room : ℕ) → ℕ
 sizeError size total room = unless (leb total maxFrame) 19 (unless (leb size maxHeader) 20 (unless (leb total room) 27 0))

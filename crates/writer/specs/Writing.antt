@@ -11,9 +11,9 @@ use Rattle.message.specs.declared.Kind.{Kind}
 use Rattle.message.specs.declared.Kind.the-variants as kinds
 use Rattle.message.specs.declared.Record.{Record}
 use Rattle.message.specs.declared.Record.the-variants as records
-use Rattle.writer.specs.Content.{kindOf, recordId, rowCount, slotsOf}
+use Rattle.outgoing.specs.Content.{kindOf, recordId, rowCount, slotsOf}
 use Rattle.writer.specs.Encoding.{putFields}
-use Rattle.writer.specs.Grounds.{rowsOk, spansWithin, rowsWithin, keysDiffer, absentOk, bodyOk}
+use Rattle.outgoing.specs.Grounds.{rowsOk, spansWithin, rowsWithin, keysDiffer, absentOk, bodyOk}
 use Rattle.writer.specs.declared.Encoded.{Encoded}
 use Rattle.writer.specs.declared.Encoded.the-variants.{Frame, Refused}
 

@@ -1,17 +1,17 @@
 // A frame of a record: the refusals in their order, then the 16 bytes, the message and the body.
 use crate::Encoded;
-use crate::content::Content;
-use crate::content::content_of;
-use crate::grounds::content_error;
 use crate::header::data_type;
 use crate::header::put_header;
 use crate::put::put_bytes;
 use crate::put::put_message;
 use crate::sizes::Sizes;
 use crate::sizes::message_sizes;
-use crate::table::schema_number;
 use message::Kind;
 use message::Record;
+use outgoing::Content;
+use outgoing::content_error;
+use outgoing::content_of;
+use outgoing::schema_number;
 ghost use mathlib.Core.Path.{_≡_};
 ghost use mathlib.Core.Bool.{true, cond};
 ghost use Prim.Native.Nat.{_+_, _≤_};
@@ -20,7 +20,8 @@ ghost use lib.ListN.{length};
 ghost use Rattle.frame.specs.Header.{maxFrame};
 ghost use Rattle.decoder.specs.Rows.{rowsIn};
 ghost use Rattle.writer.specs.Writing.{dataType, maxHeader, writtenBy};
-ghost use Rattle.writer.specs.Items.{schemaNumber, sizesOf, messageWithin, mostMessage, sizeError, Puts, Lent, RowsIn, messageIn, frameWith, writtenWith};
+ghost use Rattle.outgoing.specs.Items.{schemaNumber};
+ghost use Rattle.writer.specs.Items.{sizesOf, messageWithin, mostMessage, sizeError, Puts, Lent, RowsIn, messageIn, frameWith, writtenWith};
 
 // "header message over 65,535"
 const MAX_HEADER: usize = 65535;

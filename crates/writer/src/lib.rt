@@ -1,12 +1,9 @@
 // The writer of frames: what a record, the bytes that its starts refer to, its rows and a body are as one of six kinds.
-mod content;
 mod encode;
 mod entry;
-mod grounds;
 mod header;
 mod put;
 mod sizes;
-mod table;
 
 use encode::write_record;
 use message::Record;

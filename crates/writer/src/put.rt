@@ -1,17 +1,17 @@
 // Bytes that go into an output with room for them. Each function returns the place behind what it stored.
-use crate::content::Content;
 use crate::entry::MapEntry;
 use crate::entry::entry_at;
 use crate::sizes::Sizes;
 use crate::sizes::entry_size;
 use crate::sizes::value_at;
 use crate::sizes::widened;
-use crate::table::INIT;
-use crate::table::Item;
-use crate::table::MAX_FIELDS;
-use crate::table::REQUEST_META;
-use crate::table::RESPONSE_META;
-use crate::table::item_at;
+use outgoing::Content;
+use outgoing::INIT;
+use outgoing::Item;
+use outgoing::MAX_FIELDS;
+use outgoing::REQUEST_META;
+use outgoing::RESPONSE_META;
+use outgoing::item_at;
 use wire::Written;
 ghost use mathlib.Core.Path.{_≡_};
 ghost use mathlib.Core.Bool.{true};
@@ -22,7 +22,8 @@ ghost use Rattle.wire.specs.Writing.{putTag, putVarint, putBytes};
 ghost use Rattle.decoder.specs.Fields.{partOf};
 ghost use Rattle.decoder.specs.Rows.{rowsIn};
 ghost use Rattle.writer.specs.Encoding.{putNumber, putSome, putEntry, putRows};
-ghost use Rattle.writer.specs.Items.{itemsOf, Placed, integerOf, rowOf, RowIn, Puts, placeOf, putItem, putItems, putPart, putInit, putMessage, itemsSize, initSizes, sizesOf, itemWithin, itemsWithin, initWithin, messageWithin, RowsIn};
+ghost use Rattle.outgoing.specs.Items.{itemsOf, Placed, itemWithin, itemsWithin};
+ghost use Rattle.writer.specs.Items.{integerOf, rowOf, RowIn, Puts, placeOf, putItem, putItems, putPart, putInit, putMessage, itemsSize, initSizes, sizesOf, initWithin, messageWithin, RowsIn};
 
 // There was room.
 fn place_behind(w: Written, at: usize) -> usize

@@ -1,20 +1,21 @@
 // How many bytes a message takes, by the lengths alone.
-use crate::content::Content;
 use crate::entry::MapEntry;
 use crate::entry::entry_at;
-use crate::table::INIT;
-use crate::table::Item;
-use crate::table::MAX_FIELDS;
-use crate::table::REQUEST_META;
-use crate::table::RESPONSE_META;
-use crate::table::item_at;
+use outgoing::Content;
+use outgoing::INIT;
+use outgoing::Item;
+use outgoing::MAX_FIELDS;
+use outgoing::REQUEST_META;
+use outgoing::RESPONSE_META;
+use outgoing::item_at;
 ghost use mathlib.Core.Path.{_≡_};
 ghost use Prim.Native.Nat.{_+_, _≤_, _<_};
 ghost use lib.ListN.{length, getD};
 ghost use Rattle.wire.specs.Writing.{putTag};
 ghost use Rattle.decoder.specs.Rows.{rowsIn};
 ghost use Rattle.writer.specs.Encoding.{wide, putNumber};
-ghost use Rattle.writer.specs.Items.{itemsOf, Placed, integerOf, rowOf, bytesSize, entrySize, rowsSize, sizeIf, itemSize, itemsSize, initSizes, sizesOf, mostRow, mostItem, mostFields, mostMessage, Lent};
+ghost use Rattle.outgoing.specs.Items.{itemsOf, Placed};
+ghost use Rattle.writer.specs.Items.{integerOf, rowOf, bytesSize, entrySize, rowsSize, sizeIf, itemSize, itemsSize, initSizes, sizesOf, mostRow, mostItem, mostFields, mostMessage, Lent};
 
 // Of the whole message, and of what is inside the two parts of Init.
 pub(crate) struct Sizes {

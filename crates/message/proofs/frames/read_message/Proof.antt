@@ -65,14 +65,17 @@ returns-2 c =
     let start = at-body-at .before .before .before in
     attachment-refused _ _ _ _ _ _ _ _ _ (start .pre .0) (start .pre .1) (at-body-at .body-at .ensures) (at-schema-number .schema-number .ensures) (at-decode .decode .ensures) (at-if1 .if1 .left) (at-attachment-size .attachment-size .ensures) (at-if2 .if2 .taken) (at-clear .clear-rows .ensures) (c .refused2 .ensures)
 
-record-of-requires : tie.Need-record-of-requires
-record-of-requires c κs =
-    let at-if1 = c .before .before .before .before in
+cast-record-of : tie.Need-cast-record-of
+cast-record-of c =
+    let at-if1 = c .before .before .before .before .before in
     let at-decode = at-if1 .before .before .before in
     let at-schema-number = at-decode .before .before in
     let at-body-at = at-schema-number .before in
     let start = at-body-at .before .before .before in
-    few-decoded _ _ _ _ _ _ _ _ _ (start .pre .0) (start .pre .1) (at-body-at .body-at .ensures) (at-schema-number .schema-number .ensures) (at-decode .decode .ensures) (at-if1 .if1 .left)
+    omega (arith, few-decoded _ _ _ _ _ _ _ _ _ (start .pre .0) (start .pre .1) (at-body-at .body-at .ensures) (at-schema-number .schema-number .ensures) (at-decode .decode .ensures) (at-if1 .if1 .left))
+
+record-of-requires : tie.Need-record-of-requires
+record-of-requires c κs = search needs
 
 sub-t17 : tie.Need-sub-t17
 sub-t17 c = search needs
@@ -82,7 +85,7 @@ same-length-3 c = search needs
 
 returns-3 : tie.Need-returns-3
 returns-3 c =
-    let at-if2 = c .before in
+    let at-if2 = c .before .before in
     let at-attachment-size = at-if2 .before in
     let at-if1 = at-attachment-size .before .before .before in
     let at-decode = at-if1 .before .before .before in
@@ -108,6 +111,7 @@ read-message-spec =
     refused-requires-2
     same-length-2
     returns-2
+    cast-record-of
     record-of-requires
     sub-t17
     same-length-3

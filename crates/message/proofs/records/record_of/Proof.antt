@@ -5,9 +5,6 @@ use Rattle.message.specs.Records.{recordOf}
 use Rattle.message.proofs.records.record_of.Statement.{statement}
 use Rattle.message.proofs.records.record_of.Tie as tie
 
-cast-rows : tie.Need-cast-rows
-cast-rows c = search needs
-
 enum-told : tie.Need-enum-told
 enum-told c = search needs
 
@@ -65,7 +62,6 @@ pub record-of-spec : {M : Type 1} → statement M
 record-of-spec =
     tie.close
     (tie.spec
-    cast-rows
     enum-told
     request-of-requires
     enum-told-2

@@ -8,8 +8,9 @@ use lib.Dec.{eqb}
 use Rattle.frame.specs.Header.{maxFrame}
 use Rattle.decoder.specs.Rows.{rowsIn}
 use Rattle.writer.specs.Writing.{dataType, headerSize, fixedHeader, maxHeader}
-use Rattle.writer.specs.Items.{schemaNumber, sizesOf, messageWithin, putMessage, Puts, RowsIn, messageIn, frameWith}
-use Rattle.writer.specs.declared.content.Content.{Content}
+use Rattle.outgoing.specs.Items.{schemaNumber}
+use Rattle.writer.specs.Items.{sizesOf, messageWithin, putMessage, Puts, RowsIn, messageIn, frameWith}
+use Rattle.outgoing.specs.declared.Content.{Content}
 use Rattle.writer.specs.declared.sizes.Sizes.{Sizes}
 use Rattle.writer.proofs.Messages.{message-put, size-is}
 use Rattle.writer.proofs.Refusals.{header-length}

@@ -7,8 +7,9 @@ use lib.ListN.{length}
 use Rattle.frame.specs.Header.{maxFrame}
 use Rattle.decoder.specs.Rows.{rowsIn}
 use Rattle.writer.specs.Writing.{maxHeader}
-use Rattle.writer.specs.Items.{schemaNumber, sizesOf, messageWithin, sizeError, Lent, RowsIn, messageIn}
-use Rattle.writer.specs.declared.content.Content.{Content}
+use Rattle.outgoing.specs.Items.{schemaNumber}
+use Rattle.writer.specs.Items.{sizesOf, messageWithin, sizeError, Lent, RowsIn, messageIn}
+use Rattle.outgoing.specs.declared.Content.{Content}
 use Rattle.writer.specs.declared.sizes.Sizes.{Sizes}
 use Rattle.writer.proofs.Messages.{size-is}
 use Rattle.writer.proofs.Refusals.{no-error, refused-size, framed}

@@ -4,8 +4,9 @@ use mathlib.Core.Path.{_≡_, sym, subst}
 use mathlib.Core.Bool.{true}
 use lib.ListN.{length, drop}
 use Rattle.decoder.specs.Rows.{rowsIn}
-use Rattle.writer.specs.Items.{itemsOf, putItems, itemWithin}
-use Rattle.writer.specs.declared.table.Item.{Item}
+use Rattle.outgoing.specs.Items.{itemsOf, itemWithin}
+use Rattle.writer.specs.Items.{putItems}
+use Rattle.outgoing.specs.declared.Item.{Item}
 use Rattle.writer.proofs.FieldLists.{item-within, item-fits, put-more, put-all}
 use Rattle.writer.proofs.Outputs.{Left, starts}
 use borrow.Author.Needs.{needs}

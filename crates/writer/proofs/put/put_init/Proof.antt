@@ -6,7 +6,8 @@ use mathlib.Core.List.{List, _++_}
 use lib.ListN.{length, getD}
 use Rattle.frame.proofs.Codes.{both}
 use Rattle.decoder.specs.Rows.{Row}
-use Rattle.writer.specs.Items.{itemsOf, Puts, putItems, putPart, putInit, itemsSize, initSizes, itemsWithin, initWithin}
+use Rattle.outgoing.specs.Items.{itemsOf, itemsWithin}
+use Rattle.writer.specs.Items.{Puts, putItems, putPart, putInit, itemsSize, initSizes, initWithin}
 use Rattle.writer.specs.declared.sizes.Sizes.{Sizes}
 use Rattle.writer.proofs.Outputs.{Left, starts, first-fits, steps, ends}
 use borrow.Author.Needs.{needs}

@@ -1,6 +1,6 @@
 -- Case by case, with the values of the slots, which exist (`Placed`).
 use mathlib.Core.Path.{subst}
-use Rattle.writer.specs.Items.{Placed}
+use Rattle.outgoing.specs.Items.{Placed}
 use Rattle.writer.proofs.ItemCases.{put-unsigned, put-signed, put-bytes, put-map, put-end, bytes-in}
 use Rattle.writer.proofs.Outputs.{nothing}
 use borrow.Author.Needs.{needs}

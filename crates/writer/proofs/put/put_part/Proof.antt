@@ -7,8 +7,9 @@ use lib.ListN.{length}
 use borrow.Author.Tests.{eq-eqb, ne-eqb}
 use Rattle.wire.specs.Writing.{putTag, putVarint}
 use Rattle.decoder.specs.Rows.{Row}
-use Rattle.writer.specs.Grounds.{rowsWithin}
-use Rattle.writer.specs.Items.{itemsOf, Puts, putItems, putPart, itemsSize, itemsWithin}
+use Rattle.outgoing.specs.Grounds.{rowsWithin}
+use Rattle.outgoing.specs.Items.{itemsOf, itemsWithin}
+use Rattle.writer.specs.Items.{Puts, putItems, putPart, itemsSize}
 use Rattle.writer.proofs.Lengths.{items-length}
 use Rattle.writer.proofs.Outputs.{Left, starts, first-fits, steps, ends, nothing}
 use borrow.Author.Needs.{needs}

@@ -3,7 +3,8 @@ use Prim.Native.Nat.{_+_, _*_, _-_, _≤_}
 use mathlib.Core.Path.{_≡_}
 use lib.ListN.{drop}
 use Rattle.decoder.specs.Rows.{rowsIn}
-use Rattle.writer.specs.Items.{itemsOf, itemsSize, mostItem}
+use Rattle.outgoing.specs.Items.{itemsOf}
+use Rattle.writer.specs.Items.{itemsSize, mostItem}
 use Rattle.writer.proofs.FieldLists.{size-more, size-all}
 use borrow.Author.Needs.{needs}
 use native.Mathlib.Omega.{arith}

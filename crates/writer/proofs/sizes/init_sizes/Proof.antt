@@ -4,7 +4,8 @@ use mathlib.Core.Path.{_≡_}
 use mathlib.Core.List.{List}
 use lib.ListN.{getD}
 use Rattle.decoder.specs.Rows.{Row}
-use Rattle.writer.specs.Items.{itemsOf, itemsSize, sizeIf, initSizes, mostFields, mostMessage}
+use Rattle.outgoing.specs.Items.{itemsOf}
+use Rattle.writer.specs.Items.{itemsSize, sizeIf, initSizes, mostFields, mostMessage}
 use Rattle.writer.specs.declared.sizes.Sizes.{Sizes}
 use borrow.Author.Needs.{needs}
 use native.Mathlib.Omega.{arith}

@@ -1,6 +1,6 @@
 -- Case by case, with the values of the slots, which exist (`Placed`).
 use mathlib.Core.Path.{subst, _∙_}
-use Rattle.writer.specs.Items.{Placed}
+use Rattle.outgoing.specs.Items.{Placed}
 use Rattle.writer.proofs.ItemCases.{size-unsigned, size-signed, size-bytes, size-map, size-end}
 use borrow.Author.Needs.{needs}
 use native.Mathlib.Omega.{arith}

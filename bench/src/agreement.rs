@@ -1,0 +1,167 @@
+//! The library and the straightforward Rust give the same answers, to the number, and the peers write the same frames:
+//! without that, comparing them says nothing.
+
+use crate::frames::{mixed_total, Frames};
+use crate::inputs::{headers, large_requests, responses, small_requests, Input};
+use crate::library::{self, FIELDS, PARTS, RECORD_NUMBERS};
+use crate::plain::deframer::{self, State};
+use crate::plain::header::{self, LARGEST};
+use crate::plain::messages::Message;
+use crate::plain::queue::{Job, Queue, CAPACITY};
+use crate::plain::reader::{self, Reading, ROW_NUMBERS};
+use crate::plain::writer;
+use crate::random::Random;
+
+/// How many damaged versions of each frame are compared.
+const DAMAGED: usize = 50;
+
+/// Compares the two on all inputs and on damaged versions of them.
+pub fn check() {
+    for header in headers() {
+        for length in 0..=header.len() {
+            assert_eq!(library::header_check(&header[..length]), header::check(&header[..length]));
+        }
+    }
+    check_messages(&small_requests());
+    check_messages(&large_requests());
+    check_messages(&responses());
+    check_cutting();
+    check_queue();
+}
+
+fn damage(bytes: &mut [u8], random: &mut Random) {
+    for _ in 0..random.between(1, 2) {
+        let at = random.between(0, bytes.len() as u64 - 1) as usize;
+        bytes[at] = random.next() as u8;
+    }
+}
+
+fn check_messages<M: Message>(inputs: &[Input<M>]) {
+    let mut random = Random(11);
+    for input in inputs {
+        check_written(input);
+        check_peers(input);
+        check_read::<M>(&input.frame);
+        let header = input.frame.len() - input.body.len();
+        for _ in 0..DAMAGED {
+            let mut frame = input.frame.clone();
+            damage(&mut frame[..header], &mut random);
+            check_read::<M>(&frame);
+        }
+    }
+}
+
+fn check_written<M: Message>(i: &Input<M>) {
+    let mut ours = vec![0x55; LARGEST];
+    let mut plain = ours.clone();
+    let size = library::write(M::KIND, &i.numbers, &i.source, &i.rows, &i.body, &mut ours);
+    assert_eq!(size, writer::write(&i.record, &i.source, &i.rows, &i.body, &mut plain));
+    assert!(ours == plain, "the frames written differ");
+}
+
+/// The peers write the same frame; protobuf C++ has the entries of a map in no order.
+#[allow(unused_variables)]
+fn check_peers<M: Message>(i: &Input<M>) {
+    #[cfg(protobuf)]
+    {
+        use crate::peers::protobuf;
+        let sorted = |bytes: &[u8]| {
+            let mut bytes = bytes.to_vec();
+            bytes.sort();
+            bytes
+        };
+        let mut out = vec![0; LARGEST];
+        let message = protobuf::new(M::KIND);
+        protobuf::read(message, &i.frame);
+        let size = protobuf::write(message, i.record.id, &i.body, &mut out);
+        assert!(sorted(&out[..size]) == sorted(&i.frame), "protobuf C++ writes another frame");
+        let size = protobuf::write_fresh(M::KIND, &i.numbers, &i.source, &i.rows, &i.body, &mut out);
+        assert!(sorted(&out[..size]) == sorted(&i.frame), "protobuf C++ writes another frame");
+    }
+    #[cfg(nanopb)]
+    {
+        use crate::peers::nanopb;
+        let mut out = vec![0; LARGEST];
+        let message = nanopb::new(M::KIND);
+        nanopb::read(message, &i.frame);
+        let size = nanopb::write(message, i.record.id, &i.body, &mut out);
+        assert!(out[..size] == i.frame, "nanopb writes another frame");
+    }
+}
+
+fn check_read<M: Message>(frame: &[u8]) {
+    let mut ours = ([0x55; RECORD_NUMBERS], [0x55; ROW_NUMBERS]);
+    let mut rows = [0x55; ROW_NUMBERS];
+    let error = library::read(M::KIND, frame, &mut ours.1, &mut ours.0);
+    let plain = reader::read::<M>(frame, &mut rows);
+    assert_eq!(error, plain.as_ref().err().copied().unwrap_or(0), "reading {frame:x?}");
+    assert_eq!(ours, (plain.as_ref().map_or([0; RECORD_NUMBERS], numbers), rows), "reading {frame:x?}");
+}
+
+/// The numbers of a record as the C interface has them.
+fn numbers<M: Message>(reading: &Reading<M>) -> [u32; RECORD_NUMBERS] {
+    let mut numbers = [0; RECORD_NUMBERS];
+    numbers[0] = reading.record.id;
+    numbers[1] = reading.record.row_count as u32;
+    for (index, part) in [reading.header, reading.body, reading.attachment].iter().enumerate() {
+        numbers[PARTS + 2 * index] = part.start;
+        numbers[PARTS + 2 * index + 1] = part.length;
+    }
+    let fields = reading.record.message.numbers();
+    numbers[FIELDS..FIELDS + fields.len()].copy_from_slice(&fields);
+    numbers
+}
+
+/// Cuts streams into pieces of every size, call by call; each stream but the first has one damaged byte.
+fn check_cutting() {
+    let stream = Frames::new(1 << 18, 2, mixed_total).collect::<Vec<_>>().concat();
+    let mut random = Random(12);
+    for round in 0..20 {
+        let mut stream = stream.clone();
+        if round > 0 {
+            damage(&mut stream, &mut random);
+        }
+        let mut ours = (State::default(), vec![0; LARGEST]);
+        let mut plain = ours.clone();
+        let mut rest = &stream[..];
+        while !rest.is_empty() && ours.0.error == 0 {
+            let piece = &rest[..(random.between(0, 3_000) as usize).min(rest.len())];
+            let step = library::deframe(&mut ours.0, &mut ours.1, piece);
+            assert_eq!(step, deframer::deframe(&mut plain.0, &mut plain.1, piece));
+            assert!(ours == plain, "the states or the buffers differ");
+            rest = &rest[step.taken..];
+        }
+    }
+}
+
+/// Calls on two queues, which now and then are filled with anything, valid or not.
+fn check_queue() {
+    let mut random = Random(13);
+    let (mut ours, mut plain) = (Queue::default(), Queue::default());
+    for call in 0..20_000 {
+        let job = any_job(&mut random);
+        match random.between(0, 3) {
+            0 | 1 => assert_eq!(library::queue_add(&mut ours, job), plain.add(job)),
+            2 => assert_eq!(library::queue_take(&mut ours), plain.take()),
+            _ => {
+                let removed = library::queue_cancel(&mut ours, job.connection, job.request);
+                assert_eq!(removed, plain.cancel(job.connection, job.request));
+            }
+        }
+        assert_eq!(ours, plain);
+        if call % 200 == 0 {
+            ours.jobs = std::array::from_fn(|_| any_job(&mut random));
+            ours.count = random.between(0, CAPACITY as u64 / 4) as usize;
+            plain = ours.clone();
+        }
+    }
+}
+
+fn any_job(random: &mut Random) -> Job {
+    Job {
+        connection: random.between(0, 3) as u32,
+        request: random.between(0, 60) as u32,
+        timeout: random.between(0, 50) as u32,
+        arrival: if random.between(0, 99) == 0 { random.next() } else { random.between(0, 50) },
+    }
+}

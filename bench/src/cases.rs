@@ -1,0 +1,382 @@
+//! The jobs that are measured. Each contender's pass sums up what it found.
+
+use crate::frames::{mixed_total, small_total, Frames};
+use crate::inputs::{headers, large_requests, responses, small_requests, Input, VARIANTS};
+use crate::library::{self, PARTS, RECORD_NUMBERS};
+use crate::plain::deframer::{self, Deframer, State, Step};
+use crate::plain::header::{self, LARGEST};
+use crate::plain::messages::{Message, Request, Response};
+use crate::plain::queue::{Job, OwnQueue, Queue, CAPACITY};
+use crate::plain::reader::{self, Reading, ROW_NUMBERS};
+use crate::plain::{writer, Error};
+use crate::random::Random;
+use crate::timing::Case;
+use std::hint::black_box;
+use std::rc::Rc;
+
+/// The names of the contenders, as the report shows them.
+pub const OURS: &str = "Bekurapi";
+pub const RUST: &str = "Rust";
+pub const RUST_OWN: &str = "Rust, own state";
+pub const PROTOBUF_REUSED: &str = "protobuf C++, reused message";
+pub const PROTOBUF_FRESH: &str = "protobuf C++, fresh message";
+pub const NANOPB: &str = "nanopb";
+
+const READING: &str = "Reading a frame";
+const WRITING: &str = "Writing a frame";
+const CUTTING: &str = "Cutting a stream";
+const QUEUE: &str = "The queue";
+
+pub fn all() -> Vec<Case> {
+    let (small, large, responses) = (Rc::new(small_requests()), Rc::new(large_requests()), Rc::new(self::responses()));
+    let mut cases = vec![
+        header_check(),
+        reading("small request", small.clone()),
+        reading("large request, 20 map entries", large.clone()),
+        reading("response", responses.clone()),
+        writing("small request", small),
+        writing("large request, 20 map entries", large),
+        writing("response", responses),
+        cutting("frames of mixed sizes, pieces of 65,536 bytes", mixed_total, 4 << 20, 65_536),
+        cutting("frames of mixed sizes, pieces of 1,460 bytes", mixed_total, 4 << 20, 1_460),
+        cutting("frames of 16 to 255 bytes, pieces of 1,460 bytes", small_total, 1 << 20, 1_460),
+    ];
+    for jobs in [1, 16, CAPACITY] {
+        cases.push(add_and_take(jobs));
+    }
+    for jobs in [1, 16, CAPACITY] {
+        cases.push(cancel_and_add(jobs));
+    }
+    cases
+}
+
+fn header_check() -> Case {
+    let headers = Rc::new(headers());
+    let pass = |check: fn(&[u8]) -> Error| {
+        let headers = headers.clone();
+        move || headers.iter().map(|header| u64::from(check(black_box(header)))).sum()
+    };
+    Case::new(READING, "check of a fixed header", headers.len())
+        .with(OURS, pass(library::header_check))
+        .with(RUST, pass(header::check))
+}
+
+/// What a record says, as one number that each reader can tell: the peers' sources have the same sum.
+trait Found: Message {
+    /// Where the numbers of the sum stand in a record's 24.
+    const PLACES: &'static [usize];
+
+    fn found(&self) -> u64;
+}
+
+impl Found for Request {
+    const PLACES: &'static [usize] = &[10, 11, 13, 15, 17];
+
+    #[inline]
+    fn found(&self) -> u64 {
+        let lengths = [self.caller.length, self.callee.length, self.func.length];
+        u64::from(self.request_id) + u64::from(self.timeout) + lengths.map(u64::from).iter().sum::<u64>()
+    }
+}
+
+impl Found for Response {
+    const PLACES: &'static [usize] = &[10, 11, 12, 14];
+
+    #[inline]
+    fn found(&self) -> u64 {
+        [self.request_id, self.ret as u32, self.func_ret as u32, self.error_msg.length].map(u64::from).iter().sum()
+    }
+}
+
+#[inline]
+fn found_in<M: Found>(error: Error, numbers: &[u32; RECORD_NUMBERS]) -> u64 {
+    assert_eq!(error, 0);
+    let beside = u64::from(numbers[1]) + u64::from(numbers[PARTS + 3]);
+    M::PLACES.iter().map(|place| u64::from(numbers[*place])).sum::<u64>() + beside
+}
+
+#[inline]
+fn found<M: Found>(reading: Result<Reading<M>, Error>) -> u64 {
+    let reading = reading.expect("a good frame");
+    reading.record.message.found() + reading.record.row_count as u64 + u64::from(reading.body.length)
+}
+
+/// A pass over the inputs: the sum of what `one` says of each.
+fn over<M: 'static>(inputs: &Rc<Vec<Input<M>>>, mut one: impl FnMut(usize, &Input<M>) -> u64) -> impl FnMut() -> u64 {
+    let inputs = inputs.clone();
+    move || inputs.iter().enumerate().map(|(index, input)| one(index, black_box(input))).sum()
+}
+
+fn reading<M: Found + 'static>(name: &str, inputs: Rc<Vec<Input<M>>>) -> Case {
+    let mut rows = vec![0; ROW_NUMBERS];
+    let mut plain_rows = rows.clone();
+    let mut record = [0; RECORD_NUMBERS];
+    let case = Case::new(READING, name, VARIANTS)
+        .with(
+            OURS,
+            over(&inputs, move |_, input| {
+                let error = library::read(M::KIND, &input.frame, &mut rows, &mut record);
+                black_box(&rows);
+                found_in::<M>(error, black_box(&record))
+            }),
+        )
+        .with(
+            RUST,
+            over(&inputs, move |_, input| {
+                let reading = reader::read::<M>(&input.frame, &mut plain_rows);
+                black_box(&plain_rows);
+                found(black_box(reading))
+            }),
+        );
+    reading_peers::<M>(case, &inputs)
+}
+
+#[allow(unused_mut, unused_variables)]
+fn reading_peers<M: Found + 'static>(mut case: Case, inputs: &Rc<Vec<Input<M>>>) -> Case {
+    #[cfg(protobuf)]
+    {
+        use crate::peers::protobuf;
+        let message = protobuf::new(M::KIND);
+        case = case
+            .with(PROTOBUF_REUSED, over(inputs, move |_, input| protobuf::read(message, &input.frame)))
+            .with(PROTOBUF_FRESH, over(inputs, |_, input| protobuf::read_fresh(M::KIND, &input.frame)));
+    }
+    #[cfg(nanopb)]
+    {
+        use crate::peers::nanopb;
+        let message = nanopb::new(M::KIND);
+        case = case.with(NANOPB, over(inputs, move |_, input| nanopb::read(message, &input.frame)));
+    }
+    case
+}
+
+/// A pass that writes all inputs to one buffer.
+fn to_buffer<M: 'static>(
+    inputs: &Rc<Vec<Input<M>>>,
+    mut write: impl FnMut(usize, &Input<M>, &mut [u8]) -> usize,
+) -> impl FnMut() -> u64 {
+    let mut out = vec![0; LARGEST];
+    over(inputs, move |index, input| {
+        let size = write(index, input, &mut out);
+        black_box(&out);
+        size as u64
+    })
+}
+
+fn writing<M: Found + 'static>(name: &str, inputs: Rc<Vec<Input<M>>>) -> Case {
+    let ours = |_, i: &Input<M>, out: &mut [u8]| {
+        library::write(M::KIND, &i.numbers, &i.source, &i.rows, &i.body, out).expect("a record that can be written")
+    };
+    let plain = |_, i: &Input<M>, out: &mut [u8]| {
+        writer::write(&i.record, &i.source, &i.rows, &i.body, out).expect("a record that can be written")
+    };
+    let case = Case::new(WRITING, name, VARIANTS)
+        .with(OURS, to_buffer(&inputs, ours))
+        .with(RUST, to_buffer(&inputs, plain));
+    writing_peers::<M>(case, &inputs)
+}
+
+/// A reused message was filled before, by reading the frame.
+#[allow(unused_mut, unused_variables)]
+fn writing_peers<M: Found + 'static>(mut case: Case, inputs: &Rc<Vec<Input<M>>>) -> Case {
+    #[cfg(protobuf)]
+    {
+        use crate::peers::protobuf;
+        let filled = |input: &Input<M>| {
+            let message = protobuf::new(M::KIND);
+            protobuf::read(message, &input.frame);
+            message
+        };
+        let messages: Vec<_> = inputs.iter().map(filled).collect();
+        let reused = move |index: usize, i: &Input<M>, out: &mut [u8]| {
+            protobuf::write(messages[index], i.record.id, &i.body, out)
+        };
+        let fresh = |_, i: &Input<M>, out: &mut [u8]| {
+            protobuf::write_fresh(M::KIND, &i.numbers, &i.source, &i.rows, &i.body, out)
+        };
+        case = case.with(PROTOBUF_REUSED, to_buffer(inputs, reused)).with(PROTOBUF_FRESH, to_buffer(inputs, fresh));
+    }
+    #[cfg(nanopb)]
+    {
+        use crate::peers::nanopb;
+        let filled = |input: &Input<M>| {
+            let message = nanopb::new(M::KIND);
+            nanopb::read(message, &input.frame);
+            message
+        };
+        let messages: Vec<_> = inputs.iter().map(filled).collect();
+        let reused = move |index: usize, i: &Input<M>, out: &mut [u8]| {
+            nanopb::write(messages[index], i.record.id, &i.body, out)
+        };
+        case = case.with(NANOPB, to_buffer(inputs, reused));
+    }
+    case
+}
+
+/// A pass over a stream: hands over each piece until it is used up, and sums up the ids of the frames.
+fn cut(stream: &[u8], piece: usize, mut call: impl FnMut(&[u8]) -> (Step, u64)) -> u64 {
+    let mut sum = 0;
+    for mut rest in stream.chunks(piece) {
+        while !rest.is_empty() {
+            let (step, id) = call(rest);
+            assert_eq!(step.error, 0);
+            rest = &rest[step.taken..];
+            sum += id;
+        }
+    }
+    sum
+}
+
+/// The id of the frame at the start of the buffer.
+#[inline]
+fn id(buffer: &[u8], size: usize) -> u64 {
+    if size == 0 {
+        return 0;
+    }
+    let frame = black_box(&buffer[..size]);
+    u32::from_be_bytes([frame[10], frame[11], frame[12], frame[13]]).into()
+}
+
+fn cutting(name: &str, total: fn(&mut Random) -> u64, bytes: usize, piece: usize) -> Case {
+    let frames: Vec<Vec<u8>> = Frames::new(bytes as u64, 1, total).collect();
+    let stream = Rc::new(frames.concat());
+    let lent = |call: fn(&mut State, &mut [u8], &[u8]) -> Step| {
+        let stream = stream.clone();
+        let mut state = State::default();
+        let mut buffer = vec![0; LARGEST];
+        move || {
+            cut(&stream, piece, |rest| {
+                let step = call(&mut state, &mut buffer, rest);
+                (step, id(&buffer, step.size))
+            })
+        }
+    };
+    let own = stream.clone();
+    let mut deframer = Deframer::default();
+    Case::new(CUTTING, name, frames.len())
+        .bytes(bytes)
+        .with(OURS, lent(library::deframe))
+        .with(RUST, lent(deframer::deframe))
+        .with(RUST_OWN, move || {
+            cut(&own, piece, |rest| {
+                let step = deframer.push(rest);
+                (step, id(deframer.frame(step.size), step.size))
+            })
+        })
+}
+
+/// The three calls on a queue, by whoever has it.
+trait Calls: Default + Clone + 'static {
+    fn add(&mut self, job: Job) -> Result<(), Error>;
+    fn take(&mut self) -> Result<Job, Error>;
+    fn cancel(&mut self, connection: u32, request: u32) -> Result<Job, Error>;
+}
+
+#[derive(Clone, Default)]
+struct Library(Queue);
+
+impl Calls for Library {
+    fn add(&mut self, job: Job) -> Result<(), Error> {
+        library::queue_add(&mut self.0, job)
+    }
+    fn take(&mut self) -> Result<Job, Error> {
+        library::queue_take(&mut self.0)
+    }
+    fn cancel(&mut self, connection: u32, request: u32) -> Result<Job, Error> {
+        library::queue_cancel(&mut self.0, connection, request)
+    }
+}
+
+impl Calls for Queue {
+    fn add(&mut self, job: Job) -> Result<(), Error> {
+        Queue::add(self, job)
+    }
+    fn take(&mut self) -> Result<Job, Error> {
+        Queue::take(self)
+    }
+    fn cancel(&mut self, connection: u32, request: u32) -> Result<Job, Error> {
+        Queue::cancel(self, connection, request)
+    }
+}
+
+impl Calls for OwnQueue {
+    fn add(&mut self, job: Job) -> Result<(), Error> {
+        OwnQueue::add(self, job)
+    }
+    fn take(&mut self) -> Result<Job, Error> {
+        OwnQueue::take(self)
+    }
+    fn cancel(&mut self, connection: u32, request: u32) -> Result<Job, Error> {
+        OwnQueue::cancel(self, connection, request)
+    }
+}
+
+/// The milliseconds between two arrivals.
+const STEP: u64 = 10;
+
+/// Jobs of some connections, with request ids and arrivals that rise.
+fn jobs(count: usize, seed: u64) -> Vec<Job> {
+    let mut random = Random(seed);
+    let job = |request| Job {
+        connection: random.between(1, 8) as u32,
+        request: request as u32,
+        timeout: random.between(1, 5_000) as u32,
+        arrival: STEP * request as u64,
+    };
+    (0..count).map(job).collect()
+}
+
+/// A queue in which the jobs wait.
+fn waiting<Q: Calls>(jobs: &[Job]) -> Q {
+    let mut queue = Q::default();
+    jobs.iter().for_each(|job| queue.add(*job).unwrap());
+    queue
+}
+
+/// Adds a job, which makes so many, and takes the one due first. Each pass brings jobs that come after those of the last.
+fn taking<Q: Calls>(count: usize) -> impl FnMut() -> u64 {
+    let mut queue: Q = waiting(&jobs(count - 1, 7));
+    let mut incoming = jobs(VARIANTS, 8);
+    move || {
+        let mut sum = 0;
+        for job in &mut incoming {
+            job.request += VARIANTS as u32;
+            job.arrival += VARIANTS as u64 * STEP;
+            queue.add(*black_box(&*job)).unwrap();
+            sum += u64::from(black_box(queue.take().unwrap()).request);
+        }
+        sum
+    }
+}
+
+fn add_and_take(count: usize) -> Case {
+    Case::new(QUEUE, format!("add and take, {count} waiting"), VARIANTS)
+        .with(OURS, taking::<Library>(count))
+        .with(RUST, taking::<Queue>(count))
+        .with(RUST_OWN, taking::<OwnQueue>(count))
+}
+
+/// Of so many waiting jobs one is cancelled and added again.
+fn cancelling<Q: Calls>(count: usize) -> impl FnMut() -> u64 {
+    let jobs = jobs(count, 9);
+    let mut queue: Q = waiting(&jobs);
+    let mut random = Random(10);
+    let named: Vec<Job> = (0..VARIANTS).map(|_| jobs[random.between(0, count as u64 - 1) as usize]).collect();
+    move || {
+        let mut sum = 0;
+        for job in &named {
+            let job = black_box(job);
+            let removed = queue.cancel(job.connection, job.request).unwrap();
+            sum += u64::from(black_box(removed).timeout);
+            queue.add(*job).unwrap();
+        }
+        sum
+    }
+}
+
+fn cancel_and_add(count: usize) -> Case {
+    Case::new(QUEUE, format!("cancel and add, {count} waiting"), VARIANTS)
+        .with(OURS, cancelling::<Library>(count))
+        .with(RUST, cancelling::<Queue>(count))
+        .with(RUST_OWN, cancelling::<OwnQueue>(count))
+}

@@ -1,0 +1,12 @@
+//! What `bench/run` measures, and what stands beside it.
+
+pub mod agreement;
+pub mod cases;
+pub mod frames;
+pub mod inputs;
+pub mod library;
+pub mod peers;
+pub mod plain;
+pub mod random;
+pub mod report;
+pub mod timing;

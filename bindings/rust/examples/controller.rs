@@ -1,0 +1,124 @@
+//! A small controller. A client's stream arrives in pieces of odd sizes; the frames are cut from it, the requests are read, and
+//! a job is queued for each. Then the jobs are taken, the one that is due first before the others, and each is answered with a
+//! response frame. examples/controller.c of the repository does the same and prints the same.
+//!
+//!     cargo run --example controller
+
+use bekurapi::{
+    read, to_vec, Deframer, End, Error, Feedback, Job, Kind, Message, Queue, Record, Request, Response, TransInfo,
+};
+
+/// The number of the connection that the stream comes on.
+const CONNECTION: u32 = 1;
+
+/// A request of the client.
+struct Order {
+    id: u32,
+    /// In ms; 0 is no deadline.
+    timeout: u32,
+    func: &'static str,
+    /// The value of a key in the map.
+    cell: &'static str,
+    body: &'static str,
+}
+
+/// The jobs are due in the order 2, 1, 3; the second 2 is refused, since 2 waits already.
+const ORDERS: [Order; 4] = [
+    Order { id: 1, timeout: 4_000_000_000, func: "/cell.Robot/Park", cell: "4", body: "" },
+    Order { id: 2, timeout: 600_000, func: "/cell.Robot/Pick", cell: "4", body: "crate 12" },
+    Order { id: 3, timeout: 0, func: "/cell.Robot/Report", cell: "7", body: "since noon" },
+    Order { id: 2, timeout: 5_000, func: "/cell.Robot/Pick", cell: "4", body: "crate 12, again" },
+];
+
+impl Order {
+    fn frame(&self) -> Result<Vec<u8>, Error> {
+        let request = Request {
+            request_id: self.id,
+            timeout: self.timeout,
+            func: self.func.as_bytes(),
+            trans_info: TransInfo::from([("cell", self.cell)]),
+            ..Request::default()
+        };
+        to_vec(self.id, &Record::Request(request), self.body.as_bytes())
+    }
+}
+
+/// A Feedback frame, which is no request, then the orders, then the beginning of a frame that never gets whole.
+fn stream() -> Result<Vec<u8>, Error> {
+    let mut stream = to_vec(5, &Record::Feedback(Feedback { window_size_increment: 300 }), b"")?;
+    for order in &ORDERS {
+        stream.extend(order.frame()?);
+    }
+    stream.extend([0x09, 0x30, 0, 0, 0, 0, 0]);
+    Ok(stream)
+}
+
+fn text(bytes: &[u8]) -> std::borrow::Cow<'_, str> {
+    String::from_utf8_lossy(bytes)
+}
+
+fn print_request(message: &Message, request: &Request) {
+    print!("request {}, timeout {}, func {}", message.id, request.timeout, text(request.func));
+    for (key, value) in &request.trans_info {
+        print!(", {} = {}", text(key), text(value));
+    }
+    println!(", body \"{}\"", text(message.body));
+}
+
+/// Reads a frame as a request and queues a job for it.
+fn accept(queue: &mut Queue, frame: &[u8], now: u64) {
+    print!("frame of {} bytes: ", frame.len());
+    let message = match read(Kind::Request, frame) {
+        Ok(message) => message,
+        Err(error) => return println!("no request, error {}", error.number()),
+    };
+    let Record::Request(request) = &message.record else { unreachable!("read as a request") };
+    print_request(&message, request);
+    let job = Job { connection: CONNECTION, request: message.id, timeout: request.timeout, arrival: now };
+    match queue.add(job) {
+        Ok(()) => println!("  queued at {now} ms, {} waiting", queue.jobs().len()),
+        Err(error) => println!("  not queued, error {}", error.number()),
+    }
+}
+
+/// Cuts the frames from a stream that comes in pieces, one each millisecond.
+fn receive(queue: &mut Queue, mut stream: &[u8]) -> Result<End, Error> {
+    let mut deframer = Deframer::new();
+    for (now, size) in (0..).zip([1, 7, 31, 3, 19, 113].into_iter().cycle()) {
+        if stream.is_empty() {
+            break;
+        }
+        let (mut piece, rest) = stream.split_at(size.min(stream.len()));
+        while let Some(frame) = deframer.next_frame(&mut piece)? {
+            accept(queue, frame, now);
+        }
+        stream = rest;
+    }
+    deframer.finish()
+}
+
+/// Answers a job.
+fn answer(job: Job) -> Result<(), Error> {
+    let response = Response { request_id: job.request, ..Response::default() };
+    let frame = to_vec(job.request, &Record::Response(response), b"done")?;
+    print!("request {} is due first; its response:", job.request);
+    for byte in frame {
+        print!(" {byte:02x}");
+    }
+    println!();
+    Ok(())
+}
+
+fn main() -> Result<(), Error> {
+    let mut queue = Queue::new();
+    match receive(&mut queue, &stream()?) {
+        Ok(End::Clean) => println!("the stream ends clean"),
+        Ok(End::Short(held)) => println!("the stream ends short, with {held} bytes held"),
+        Err(error) => println!("the stream is refused with {}", error.number()),
+    }
+    while let Ok(job) = queue.take() {
+        answer(job)?;
+    }
+    println!("nothing waits");
+    Ok(())
+}

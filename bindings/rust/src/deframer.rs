@@ -1,0 +1,202 @@
+use std::fmt;
+
+use crate::error::{checked, Error};
+use crate::ffi;
+use crate::header::MAX_FRAME;
+
+/// Cuts a stream that arrives in pieces into frames. It owns the buffer of 65,536 bytes in which frames are put together.
+///
+/// However the stream is cut into pieces, the frames, the error and the end are those of the whole stream.
+///
+/// ```
+/// use bekurapi::{to_vec, Deframer, End, Feedback, Record};
+///
+/// let feedback = Record::Feedback(Feedback { window_size_increment: 300 });
+/// let mut stream = to_vec(5, &feedback, b"").unwrap();
+/// stream.push(0x09);
+///
+/// let mut deframer = Deframer::new();
+/// let mut sizes = Vec::new();
+/// for mut piece in stream.chunks(7) {
+///     while let Some(frame) = deframer.next_frame(&mut piece).unwrap() {
+///         sizes.push(frame.len());
+///     }
+/// }
+/// assert_eq!(sizes, [19]);
+/// assert_eq!(deframer.finish(), Ok(End::Short(1)));
+/// ```
+#[derive(Clone)]
+pub struct Deframer {
+    held: usize,
+    error: u32,
+    buffer: Box<[u8]>,
+}
+
+/// What a call of [`Deframer::push`] did.
+///
+/// ```
+/// use bekurapi::{Deframer, Progress};
+///
+/// let mut deframer = Deframer::new();
+/// let Progress { taken, frame } = deframer.push(&[0x09, 0x30]).unwrap();
+/// assert_eq!((taken, frame), (2, None));
+/// ```
+#[derive(Clone, Copy, Debug, PartialEq, Eq)]
+pub struct Progress<'d> {
+    /// How many bytes of the piece were taken.
+    pub taken: usize,
+    /// The whole frame, or nothing where more is needed: the piece is used up then.
+    pub frame: Option<&'d [u8]>,
+}
+
+/// How a stream ended.
+///
+/// ```
+/// use bekurapi::{Deframer, End};
+///
+/// assert_eq!(Deframer::new().finish(), Ok(End::Clean));
+/// ```
+#[derive(Clone, Copy, Debug, PartialEq, Eq)]
+pub enum End {
+    /// Behind a whole frame, or before the first.
+    Clean,
+    /// Inside a frame, of which so many bytes had come.
+    Short(usize),
+}
+
+impl Deframer {
+    /// A deframer for a new stream.
+    ///
+    /// ```
+    /// assert!(bekurapi::Deframer::new().held().is_empty());
+    /// ```
+    pub fn new() -> Deframer {
+        Deframer { held: 0, error: 0, buffer: vec![0; MAX_FRAME].into_boxed_slice() }
+    }
+
+    /// Takes bytes from a piece until a frame is whole, a header is refused or the piece ends. What was not taken is to be
+    /// pushed again; [`Deframer::next_frame`] sees to that.
+    ///
+    /// A header is judged when its 16th byte arrives. Its errors are those of [`header_check`](crate::header_check) from
+    /// [`Error::Magic`] on, and they are the stream's end: each later call gives the same error and takes nothing.
+    ///
+    /// ```
+    /// use bekurapi::{to_vec, Deframer, Record};
+    ///
+    /// let one = to_vec(7, &Record::Data, b"one").unwrap();
+    /// let two = to_vec(7, &Record::Data, b"two").unwrap();
+    /// let piece = [&one[..], &two[..]].concat();
+    ///
+    /// let mut deframer = Deframer::new();
+    /// let progress = deframer.push(&piece).unwrap();
+    /// assert_eq!(progress.frame, Some(&one[..]));
+    /// let taken = progress.taken;
+    /// assert_eq!(deframer.push(&piece[taken..]).unwrap().frame, Some(&two[..]));
+    /// ```
+    pub fn push(&mut self, piece: &[u8]) -> Result<Progress<'_>, Error> {
+        let (taken, frame) = self.deframe(piece);
+        Ok(Progress { taken, frame: frame? })
+    }
+
+    /// The next whole frame of a piece, which is cut down to the bytes behind those taken; nothing where the piece is used up.
+    /// Call it until then, as in the example of [`Deframer`].
+    ///
+    /// After an error the piece begins behind the header that was refused.
+    ///
+    /// ```
+    /// use bekurapi::{Deframer, Error};
+    ///
+    /// let mut deframer = Deframer::new();
+    /// let mut piece = &b"GET / HTTP/1.1\r\nHost: cell"[..];
+    /// assert_eq!(deframer.next_frame(&mut piece), Err(Error::Magic));
+    /// assert_eq!(piece, b"Host: cell");
+    /// assert_eq!(deframer.held(), b"GET / HTTP/1.1\r\n");
+    /// ```
+    pub fn next_frame(&mut self, piece: &mut &[u8]) -> Result<Option<&[u8]>, Error> {
+        let (taken, frame) = self.deframe(piece);
+        *piece = &piece[taken..];
+        frame
+    }
+
+    /// How the stream ended, if it ends here; or the error that a call has given.
+    ///
+    /// ```
+    /// use bekurapi::{Deframer, End, Error};
+    ///
+    /// let mut deframer = Deframer::new();
+    /// deframer.push(&[0x30]).unwrap();
+    /// assert_eq!(deframer.finish(), Ok(End::Short(1)));
+    ///
+    /// assert_eq!(deframer.push(&[0; 15]), Err(Error::Magic));
+    /// assert_eq!(deframer.finish(), Err(Error::Magic));
+    /// ```
+    pub fn finish(&self) -> Result<End, Error> {
+        let mut short_by = 0;
+        // SAFETY: the pointer and the length are those of the buffer, which the function only reads; `short_by` is a local
+        // that it alone writes.
+        let code =
+            unsafe { ffi::trpc_finish(self.held, self.error, self.buffer.as_ptr(), self.buffer.len(), &mut short_by) };
+        checked(code)?;
+        Ok(if short_by == 0 { End::Clean } else { End::Short(short_by) })
+    }
+
+    /// The bytes held: the beginning of a frame that is not whole yet, or the header that was refused.
+    ///
+    /// ```
+    /// let mut deframer = bekurapi::Deframer::new();
+    /// deframer.push(&[0x09, 0x30, 0]).unwrap();
+    /// assert_eq!(deframer.held(), [0x09, 0x30, 0]);
+    /// ```
+    pub fn held(&self) -> &[u8] {
+        &self.buffer[..self.held]
+    }
+
+    /// Makes the deframer one for a new stream. The buffer is kept.
+    ///
+    /// ```
+    /// use bekurapi::{Deframer, End};
+    ///
+    /// let mut deframer = Deframer::new();
+    /// deframer.push(&[0x09]).unwrap();
+    /// deframer.reset();
+    /// assert_eq!(deframer.finish(), Ok(End::Clean));
+    /// ```
+    pub fn reset(&mut self) {
+        self.held = 0;
+        self.error = 0;
+    }
+
+    /// A call of the library: how many bytes were taken, and the whole frame, nothing, or the error.
+    fn deframe(&mut self, piece: &[u8]) -> (usize, Result<Option<&[u8]>, Error>) {
+        let mut taken = 0;
+        let mut size = 0;
+        // SAFETY: each pointer with a length is a slice's; the buffer is borrowed exclusively and so does not overlap the
+        // piece. The numbers are fields and locals of their own that the function alone writes.
+        let code = unsafe {
+            ffi::trpc_deframe(
+                &mut self.held,
+                &mut self.error,
+                self.buffer.as_mut_ptr(),
+                self.buffer.len(),
+                piece.as_ptr(),
+                piece.len(),
+                &mut taken,
+                &mut size,
+            )
+        };
+        let frame = if size == 0 { None } else { Some(&self.buffer[..size]) };
+        (taken, checked(code).map(|()| frame))
+    }
+}
+
+impl Default for Deframer {
+    fn default() -> Self {
+        Deframer::new()
+    }
+}
+
+impl fmt::Debug for Deframer {
+    fn fmt(&self, f: &mut fmt::Formatter<'_>) -> fmt::Result {
+        f.debug_struct("Deframer").field("held", &self.held).field("error", &self.error).finish_non_exhaustive()
+    }
+}

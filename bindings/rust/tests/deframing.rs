@@ -1,0 +1,118 @@
+//! The deframer: every way to cut a short stream, damaged headers, the largest frame.
+
+use bekurapi::{header_check, to_vec, Deframer, End, Error, Feedback, Progress, Record, Request, MAX_FRAME};
+
+/// A Feedback frame of 19 bytes, a request of 16 and a Data frame of 20.
+fn frames() -> [Vec<u8>; 3] {
+    [
+        to_vec(5, &Record::Feedback(Feedback { window_size_increment: 300 }), b"").unwrap(),
+        to_vec(7, &Record::Request(Request::default()), b"").unwrap(),
+        to_vec(9, &Record::Data, b"data").unwrap(),
+    ]
+}
+
+/// The frames of a stream in pieces, and how it ended.
+fn deframed<'a>(pieces: impl IntoIterator<Item = &'a [u8]>) -> (Vec<Vec<u8>>, Result<End, Error>) {
+    let mut deframer = Deframer::new();
+    let mut frames = Vec::new();
+    for mut piece in pieces {
+        loop {
+            match deframer.next_frame(&mut piece) {
+                Ok(Some(frame)) => frames.push(frame.to_vec()),
+                Ok(None) => break assert!(piece.is_empty()),
+                Err(error) => {
+                    assert_eq!(deframer.finish(), Err(error));
+                    return (frames, Err(error));
+                }
+            }
+        }
+    }
+    let end = deframer.finish();
+    (frames, end)
+}
+
+#[test]
+fn pieces_of_every_size() {
+    let stream = frames().concat();
+    for size in 1..=stream.len() {
+        assert_eq!(deframed(stream.chunks(size)), (frames().to_vec(), Ok(End::Clean)));
+    }
+}
+
+#[test]
+fn every_pair_of_cuts() {
+    let stream = frames().concat();
+    for second in 0..=stream.len() {
+        for first in 0..=second {
+            let pieces = [&stream[..first], &stream[first..second], &stream[second..]];
+            assert_eq!(deframed(pieces), (frames().to_vec(), Ok(End::Clean)));
+        }
+    }
+}
+
+#[test]
+fn every_end() {
+    let stream = frames().concat();
+    let ends = [0, 19, 35, 55];
+    for len in 0..=stream.len() {
+        let whole = ends.iter().filter(|&&end| end != 0 && end <= len).count();
+        let held = len - ends[whole];
+        let end = if held == 0 { End::Clean } else { End::Short(held) };
+        assert_eq!(deframed([&stream[..len]]), (frames()[..whole].to_vec(), Ok(end)));
+    }
+}
+
+#[test]
+fn every_refused_header() {
+    // Place and value of a byte of a Feedback frame that is changed, and the error.
+    let changes = [
+        (0, 0x30, Error::Magic),
+        (2, 2, Error::DataType),
+        (3, 5, Error::StreamType),
+        (7, 15, Error::Total),
+        (9, 1, Error::HeaderSize),
+        (15, 1, Error::Reserved),
+    ];
+    for (place, value, error) in changes {
+        let mut bad = frames()[0].clone();
+        bad[place] = value;
+        assert_eq!(header_check(&bad[..16]), Err(error));
+        let stream = [frames()[1].clone(), bad].concat();
+        for size in 1..=stream.len() {
+            assert_eq!(deframed(stream.chunks(size)), (vec![frames()[1].clone()], Err(error)));
+        }
+    }
+}
+
+#[test]
+fn a_refused_header_is_not_judged_sooner_and_stays() {
+    let mut deframer = Deframer::new();
+    assert_eq!(deframer.push(&[0x30; 15]), Ok(Progress { taken: 15, frame: None }));
+    assert_eq!(deframer.finish(), Ok(End::Short(15)));
+    let mut piece = &[0x30; 4][..];
+    assert_eq!(deframer.next_frame(&mut piece), Err(Error::Magic));
+    assert_eq!(piece.len(), 3);
+    for piece in [&[0x09; 40][..], &[]] {
+        assert_eq!(deframer.push(piece), Err(Error::Magic));
+    }
+    assert_eq!(deframer.held(), [0x30; 16]);
+    deframer.reset();
+    assert_eq!(deframer.push(&frames()[0]).unwrap().frame, Some(&frames()[0][..]));
+}
+
+#[test]
+fn largest_frame() {
+    let body = vec![0xa5; MAX_FRAME - 16];
+    let frame = to_vec(1, &Record::Data, &body).unwrap();
+    let stream = [&frame[..], &frame[..]].concat();
+    assert_eq!(deframed(stream.chunks(4_093)), (vec![frame.clone(), frame], Ok(End::Clean)));
+}
+
+#[test]
+fn header_lengths() {
+    let header = &frames()[1][..];
+    assert_eq!(header_check(header), Ok(()));
+    for len in (0..16).chain(17..40) {
+        assert_eq!(header_check(&vec![0x09; len]), Err(Error::LengthOrKind));
+    }
+}

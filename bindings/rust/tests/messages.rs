@@ -1,0 +1,291 @@
+//! Writing and reading: each kind, the borders, and each error that the bindings let through.
+
+use bekurapi::{
+    read, to_vec, write, Close, Error, Feedback, Init, Kind, Record, Request, RequestMeta, Response, ResponseMeta,
+    TransInfo, MAX_FRAME,
+};
+
+const KINDS: [Kind; 6] = [Kind::Request, Kind::Response, Kind::Init, Kind::Data, Kind::Feedback, Kind::Close];
+
+/// Every field with a value of its own, numbers as large as they get and an empty value among the rows.
+fn full_records() -> Vec<Record<'static>> {
+    let info = || TransInfo::from([("cell", "4"), ("", "key is empty"), ("value is empty", "")]);
+    vec![
+        Record::Request(Request {
+            version: 1,
+            call_type: u32::MAX,
+            request_id: 3,
+            timeout: 4_000_000_000,
+            caller: b"caller",
+            callee: b"callee, longer",
+            func: b"/cell.Robot/Pick",
+            message_type: 8,
+            trans_info: info(),
+            content_type: 10,
+            content_encoding: 11,
+            attachment_size: 4,
+        }),
+        Record::Response(Response {
+            version: 1,
+            call_type: 2,
+            request_id: u32::MAX,
+            ret: -1,
+            func_ret: i32::MIN,
+            error_msg: b"gripper open",
+            message_type: 7,
+            trans_info: info(),
+            content_type: 9,
+            content_encoding: 10,
+            attachment_size: 12,
+        }),
+        Record::Init(Init {
+            request_meta: Some(RequestMeta {
+                caller: b"vision",
+                callee: b"camera",
+                func: b"/cell.Camera/Watch",
+                message_type: 4,
+                trans_info: info(),
+            }),
+            response_meta: Some(ResponseMeta { ret: -7, error_msg: b"dark" }),
+            init_window_size: 65_536,
+            content_type: 4,
+            content_encoding: 5,
+        }),
+        Record::Data,
+        Record::Feedback(Feedback { window_size_increment: u32::MAX }),
+        Record::Close(Close {
+            close_type: -1,
+            ret: i32::MAX,
+            msg: b"camera lost",
+            message_type: 4,
+            trans_info: info(),
+            func_ret: -6,
+        }),
+    ]
+}
+
+fn empty_records() -> Vec<Record<'static>> {
+    vec![
+        Record::Request(Request::default()),
+        Record::Response(Response::default()),
+        Record::Init(Init::default()),
+        Record::Data,
+        Record::Feedback(Feedback::default()),
+        Record::Close(Close::default()),
+    ]
+}
+
+/// A body where the kind may have one.
+fn body_of(record: &Record) -> &'static [u8] {
+    match record.kind() {
+        Kind::Request | Kind::Response | Kind::Data => b"twelve bytes and some more",
+        _ => b"",
+    }
+}
+
+#[test]
+fn what_is_written_reads_as_it_was() {
+    for record in [full_records(), empty_records()].concat() {
+        let body = body_of(&record);
+        let frame = to_vec(0x0102_0304, &record, body).unwrap();
+        let message = read(record.kind(), &frame).unwrap();
+        assert_eq!(message.id, 0x0102_0304);
+        assert_eq!(message.record, record);
+        assert_eq!(message.body, body);
+        assert_eq!(frame.len(), 16 + message.header.len() + body.len());
+    }
+}
+
+#[test]
+fn one_meta_part_alone() {
+    let asks = Init { request_meta: Some(RequestMeta::default()), ..Init::default() };
+    let answers = Init { response_meta: Some(ResponseMeta::default()), ..Init::default() };
+    for (init, header) in [(asks, [0x0a, 0]), (answers, [0x12, 0])] {
+        let frame = to_vec(1, &Record::Init(init.clone()), b"").unwrap();
+        let message = read(Kind::Init, &frame).unwrap();
+        assert_eq!(message.header, header);
+        assert_eq!(message.record, Record::Init(init));
+    }
+}
+
+#[test]
+fn attachments_are_the_end_of_the_body() {
+    let frame = to_vec(1, &full_records()[0], b"body and tail").unwrap();
+    let message = read(Kind::Request, &frame).unwrap();
+    assert_eq!(message.attachment, b"tail");
+    assert_eq!(message.attachment.as_ptr_range().end, message.body.as_ptr_range().end);
+}
+
+#[test]
+fn a_frame_reads_as_its_own_kind_alone() {
+    for record in full_records() {
+        let frame = to_vec(1, &record, body_of(&record)).unwrap();
+        let unary = |kind| matches!(kind, Kind::Request | Kind::Response);
+        for kind in KINDS {
+            // A unary frame doesn't say whether it is a request or a response.
+            if kind != record.kind() && !(unary(kind) && unary(record.kind())) {
+                assert_eq!(read(kind, &frame), Err(Error::LengthOrKind));
+            }
+        }
+    }
+}
+
+#[test]
+fn a_cut_frame_is_refused() {
+    for record in full_records() {
+        let frame = to_vec(1, &record, body_of(&record)).unwrap();
+        for len in 0..frame.len() {
+            assert_eq!(read(record.kind(), &frame[..len]), Err(Error::LengthOrKind));
+        }
+    }
+}
+
+/// A unary frame around a header message and a body.
+fn unary(header: &[u8], body: &[u8]) -> Vec<u8> {
+    let total = (16 + header.len() + body.len()) as u32;
+    let mut frame = vec![0x09, 0x30, 0, 0];
+    frame.extend(total.to_be_bytes());
+    frame.extend((header.len() as u16).to_be_bytes());
+    frame.extend([0, 0, 0, 7, 0, 0]);
+    frame.extend(header);
+    frame.extend(body);
+    frame
+}
+
+#[test]
+fn errors_of_the_reader() {
+    let nine_ff = [0xff; 9];
+    let groups = [[0x7b; 33], [0x7c; 33]].concat();
+    let cases: [(&[u8], Error); 8] = [
+        (&[&[0x20][..], &nine_ff, &[0x02]].concat(), Error::Varint),
+        (&[0x20], Error::Varint),
+        (&[0x07], Error::Tag),
+        (&[0x7b, 0x84, 0x01], Error::Tag),
+        (&[0x2a, 1], Error::PastEnd),
+        (&groups, Error::GroupDepth),
+        (&[0x4a, 0].repeat(65), Error::MapEntries),
+        (&[0x60, 5], Error::Attachment),
+    ];
+    for (header, error) in cases {
+        assert_eq!(read(Kind::Request, &unary(header, b"four")), Err(error));
+    }
+    let mut frame = unary(&[], b"");
+    frame[0] = 0x30;
+    assert_eq!(read(Kind::Request, &frame), Err(Error::Magic));
+}
+
+#[test]
+fn checked_examples() {
+    let request = |header: &[u8]| match read(Kind::Request, &unary(header, b"")).unwrap().record {
+        Record::Request(request) => (request.timeout, request.attachment_size),
+        _ => unreachable!(),
+    };
+    assert_eq!(request(&[]), (0, 0));
+    assert_eq!(request(&[0x20, 0x88, 0x27]), (5_000, 0));
+    assert_eq!(request(&[0x20, 5, 0x20, 7]), (7, 0));
+    assert_eq!(request(&[0x7b, 0x7c]), (0, 0));
+    let minus_one = [&[0x20][..], &[0xff; 9], &[0x01]].concat();
+    let frame = unary(&minus_one, b"");
+    let response = Response { ret: -1, ..Response::default() };
+    assert_eq!(read(Kind::Response, &frame).unwrap().record, Record::Response(response.clone()));
+    assert_eq!(to_vec(7, &Record::Response(response), b""), Ok(frame));
+    assert_eq!(read(Kind::Response, &unary(&[0x60, 5], b"5body")).unwrap().attachment, b"5body");
+    assert_eq!(read(Kind::Response, &unary(&[0x58, 5], b"5body")).unwrap().attachment, b"");
+}
+
+#[test]
+fn a_key_that_comes_again_keeps_its_place() {
+    let entry = |key: u8, value: u8| [0x4a, 6, 0x0a, 1, key, 0x12, 1, value];
+    let header = [entry(b'a', b'1'), entry(b'b', b'2'), entry(b'a', b'3')].concat();
+    let frame = unary(&header, b"");
+    let Record::Request(request) = read(Kind::Request, &frame).unwrap().record else { unreachable!() };
+    assert_eq!(request.trans_info, TransInfo::from([("a", "3"), ("b", "2")]));
+}
+
+#[test]
+fn up_to_64_rows() {
+    let keys: Vec<String> = (0..65).map(|number| number.to_string()).collect();
+    let info = |count| keys[..count].iter().map(|key| (key, key)).collect();
+    let request = |count| Record::Request(Request { trans_info: info(count), ..Request::default() });
+    let frame = to_vec(1, &request(64), b"").unwrap();
+    assert_eq!(read(Kind::Request, &frame).unwrap().record, request(64));
+    assert_eq!(to_vec(1, &request(65), b""), Err(Error::Rows));
+}
+
+#[test]
+fn equal_keys_are_refused() {
+    let info = TransInfo::from([("cell", "4"), ("cell", "5")]);
+    let close = Close { trans_info: info, ..Close::default() };
+    assert_eq!(to_vec(1, &Record::Close(close), b""), Err(Error::Rows));
+}
+
+#[test]
+fn bodies_that_are_refused() {
+    for record in empty_records() {
+        let body = to_vec(1, &record, b"body");
+        match record.kind() {
+            Kind::Request | Kind::Response | Kind::Data => assert!(body.is_ok()),
+            _ => assert_eq!(body, Err(Error::Attachment)),
+        }
+    }
+    let response = Response { attachment_size: 5, ..Response::default() };
+    assert_eq!(to_vec(1, &Record::Response(response), b"four"), Err(Error::Attachment));
+}
+
+#[test]
+fn frames_up_to_the_largest() {
+    let func = vec![b'f'; MAX_FRAME];
+    let request = |len| Record::Request(Request { func: &func[..len], ..Request::default() });
+    // 16 bytes, a tag, and a length of three bytes.
+    let most = MAX_FRAME - 20;
+    assert_eq!(to_vec(1, &request(most), b"").unwrap().len(), MAX_FRAME);
+    assert_eq!(to_vec(1, &request(most), b"1"), Err(Error::FrameSize));
+    assert_eq!(to_vec(1, &request(most + 1), b""), Err(Error::FrameSize));
+}
+
+/// Starts of so many source bytes have no 32-bit number: 19 comes before 18, and none of the bytes is copied.
+#[test]
+fn more_than_4_gib() {
+    let long = vec![0; 1 << 26];
+    let info = (0..65).map(|_| ("cell", &long)).collect();
+    let request = Record::Request(Request { trans_info: info, ..Request::default() });
+    assert_eq!(to_vec(1, &request, b""), Err(Error::FrameSize));
+    assert_eq!(write(1, &request, b"", &mut []), Err(Error::FrameSize));
+}
+
+#[test]
+fn outputs_of_every_size() {
+    for record in [full_records(), empty_records()].concat() {
+        let body = body_of(&record);
+        let frame = to_vec(1, &record, body).unwrap();
+        for len in 0..frame.len() + 8 {
+            let mut out = vec![0xee; len];
+            let written = write(1, &record, body, &mut out);
+            if len < frame.len() {
+                assert_eq!(written, Err(Error::OutputTooShort));
+                assert!(out.iter().all(|&byte| byte == 0xee));
+            } else {
+                assert_eq!(written, Ok(frame.len()));
+                assert_eq!(out[..frame.len()], frame);
+                assert!(out[frame.len()..].iter().all(|&byte| byte == 0xee));
+            }
+        }
+    }
+}
+
+/// The frame is as large as its fields make it: the room that `to_vec` sets aside is enough.
+#[test]
+fn fields_that_take_most_room() {
+    let text = [b'x'; 127];
+    let keys: Vec<Vec<u8>> = (0..64).map(|number| [vec![number], text.to_vec()].concat()).collect();
+    let close = Close {
+        close_type: -1,
+        ret: -1,
+        msg: &text,
+        message_type: u32::MAX,
+        trans_info: keys.iter().map(|key| (key, key)).collect(),
+        func_ret: -1,
+    };
+    let frame = to_vec(u32::MAX, &Record::Close(close.clone()), b"").unwrap();
+    assert_eq!(read(Kind::Close, &frame).unwrap().record, Record::Close(close));
+}

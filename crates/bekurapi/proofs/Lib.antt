@@ -1,0 +1,6 @@
+-- What the numbers of a record say
+pub mod Back
+-- For the proofs of this crate's functions.
+mod Copies
+mod KindLaws
+mod NumberLaws

@@ -1,0 +1,32 @@
+-- What the deframer gives, as numbers.
+use mathlib.Core.Path.{ap, _∙_}
+use borrow.Author.Needs.{needs}
+use Rattle.frame.specs.declared.Step.{Step}
+use Rattle.bekurapi.specs.Answers.{progressError, progressSize}
+use Rattle.bekurapi.proofs.trpc_deframe.Statement.{statement}
+use Rattle.bekurapi.proofs.trpc_deframe.Tie as tie
+
+deframe-requires : tie.Need-deframe-requires
+deframe-requires c κs = search needs
+
+progress-size-requires : tie.Need-progress-size-requires
+progress-size-requires c κs = search needs
+
+progress-error-requires : tie.Need-progress-error-requires
+progress-error-requires c κs = search needs
+
+same-length : tie.Need-same-length
+same-length c = search needs
+
+returns : tie.Need-returns
+returns c =
+    let gave = c .before .before .before .before .before .deframe .ensures in
+    let answer = ap (λ (x : Step). x .progress) (gave .0) in (
+      (c .progress-error .ensures ∙ ap progressError answer, c .before .progress-size .ensures ∙ ap progressSize answer),
+      (ap (λ (x : Step). x .next) (gave .0), (ap (λ (x : Step). x .taken) (gave .0), gave .1)),
+    )
+
+pub trpc-deframe-spec : {M : Type 1} → statement M
+trpc-deframe-spec =
+    tie.close
+    (tie.spec deframe-requires progress-size-requires progress-error-requires same-length returns)

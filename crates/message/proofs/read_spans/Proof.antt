@@ -1,0 +1,49 @@
+-- The places that `read_parts` answers are those of the definition's spans (`Placed`).
+use Prim.Native.Nat.{ℕ}
+use mathlib.Core.Path.{_≡_, refl, _∙_}
+use borrow.Author.Needs.{needs}
+use lib.ListN.{length}
+use Rattle.message.specs.Frames.{Reading, readFrame}
+use Rattle.message.specs.Spans.{spansOf}
+use Rattle.message.specs.declared.Record.{Record}
+use Rattle.message.specs.declared.Span.{Span}
+use Rattle.message.specs.declared.Located.{Located}
+use Rattle.message.proofs.read_spans.Statement.{statement}
+use Rattle.message.proofs.read_spans.Tie as tie
+
+together : (x : Reading) (size : ℕ) {r : Record} {h b a : Span} → r ≡ x .answer → h ≡ spansOf x size .header → b ≡ spansOf x size .body
+    → a ≡ spansOf x size .attachment → _≡_ {A = Located} (record { «record» = r; header = h; body = b; attachment = a }) (spansOf x size)
+together x size e f g h = rw (e, f, g, h) refl
+
+read-parts-requires : tie.Need-read-parts-requires
+read-parts-requires c κs = search needs
+
+span-requires : tie.Need-span-requires
+span-requires c κs = c .before .before .before .read-parts .ensures .placed .small .0
+
+span-requires-2 : tie.Need-span-requires-2
+span-requires-2 c κs = c .before .before .before .before .read-parts .ensures .placed .small .1
+
+span-requires-3 : tie.Need-span-requires-3
+span-requires-3 c κs = c .before .before .before .before .before .read-parts .ensures .placed .small .1
+
+same-length : tie.Need-same-length
+same-length c = search needs
+
+returns : tie.Need-returns
+returns c =
+    let at-read = c .before .before .before .before .before .before in
+    let start = at-read .before .before .before .before in
+    let read = at-read .read-parts .ensures in
+    (together (readFrame (start .args .kind) (start .args .frame .now) (start .args .rows .now)) (length (start .args .frame .now)) (read .answer-is) (c .before .before .span .ensures ∙ read .placed .header-at) (c .before .span2 .ensures ∙ read .placed .body-at) (c .span3 .ensures ∙ read .placed .attachment-at), read .rows-are)
+
+pub read-spans-spec : {M : Type 1} → statement M
+read-spans-spec =
+    tie.close
+    (tie.spec
+    read-parts-requires
+    span-requires
+    span-requires-2
+    span-requires-3
+    same-length
+    returns)

@@ -1,0 +1,185 @@
+// The record to be written: its content, the fields of its message in their order, and the
+// grounds on which it is refused before its size is known.
+mod grounds;
+mod kinds;
+mod table;
+
+use grounds::absent_ok;
+use grounds::body_ok;
+use grounds::keys_differ;
+use grounds::rows_ok;
+use grounds::rows_within;
+use grounds::spans_within;
+use kinds::close_content;
+use kinds::init_content;
+use kinds::request_content;
+use kinds::response_content;
+use message::Kind;
+use message::Record;
+use table::close_item;
+use table::feedback_item;
+use table::init_item;
+use table::request_item;
+use table::request_meta_item;
+use table::response_item;
+use table::response_meta_item;
+ghost use mathlib.Core.Path.{_≡_};
+ghost use lib.ListN.{getD};
+ghost use Rattle.decoder.specs.DecoderState.{partSchema, slotAt};
+ghost use Rattle.outgoing.specs.Content.{kindOf, recordId, rowCount, slotsOf};
+ghost use Rattle.outgoing.specs.Grounds.{contentError};
+ghost use Rattle.outgoing.specs.Items.{items, ended, Placed, schemaNumber};
+
+// The schema numbers: the messages, and the two parts of Init.
+pub const REQUEST: u32 = 0;
+
+pub const RESPONSE: u32 = 1;
+
+pub const INIT: u32 = 2;
+
+// Data has no message, and so no fields.
+pub const DATA: u32 = 3;
+
+pub const FEEDBACK: u32 = 4;
+
+pub const CLOSE: u32 = 5;
+
+pub const REQUEST_META: u32 = 6;
+
+pub const RESPONSE_META: u32 = 7;
+
+// As many as the largest message has.
+pub const MAX_FIELDS: usize = 12;
+
+// 15: "attachment larger than body; writer: a body with Init, Feedback or Close"
+const BAD_BODY: u32 = 15;
+
+// 17: "a start plus length past the end of the source bytes, empty fields too"
+const PAST_SOURCE: u32 = 17;
+
+// 18: "over 64 rows, rows with Feedback or Data, row slice too short for them, equal keys, or a meta part marked absent and not
+// all zero, empty and rowless"
+const BAD_ROWS: u32 = 18;
+
+// What the writer takes from a record: kind, id, the fields by the order of the kind's schema, and the row count.
+pub struct Content {
+    pub kind: Kind,
+    pub id: u32,
+    pub values: [u32; 16],
+    pub rows: u32,
+}
+
+// A field with its number: a uint32 or an int32 with its slot, bytes with the first of their two slots, a map; or there is no
+// more. The parts of Init are written apart.
+pub enum Item {
+    Unsigned(u32, usize),
+    Signed(u32, usize),
+    Bytes(u32, usize),
+    Map(u32),
+    End,
+}
+
+// The content of a record; of a refused one, all zero.
+pub fn content_of(record: Record) -> Content
+    ensures { λ r. ⌜ (r .kind ≡ kindOf «record») × (r .id ≡ recordId «record») × (r .values ≡ slotsOf «record») × (r .rows ≡ rowCount «record») ⌝ }
+{
+    match record {
+        Record::Request(r) => request_content(r),
+        Record::Response(r) => response_content(r),
+        Record::Init(r) => init_content(r),
+        Record::Data(r) => Content {
+            kind: Kind::Data,
+            id: r.id,
+            values: [0; 16],
+            rows: r.rows,
+        },
+        Record::Feedback(r) => Content {
+            kind: Kind::Feedback,
+            id: r.id,
+            values: [
+                r.window_size_increment,
+                0,
+                0,
+                0,
+                0,
+                0,
+                0,
+                0,
+                0,
+                0,
+                0,
+                0,
+                0,
+                0,
+                0,
+                0,
+            ],
+            rows: r.rows,
+        },
+        Record::Close(r) => close_content(r),
+        Record::Refused(_) => Content {
+            kind: Kind::Data,
+            id: 0,
+            values: [0; 16],
+            rows: 0,
+        },
+    }
+}
+
+// The schema number of a kind's message.
+pub fn schema_number(kind: Kind) -> u32
+    ensures { λ r. ⌜ r ≡ schemaNumber kind ⌝ }
+{
+    match kind {
+        Kind::Request => REQUEST,
+        Kind::Response => RESPONSE,
+        Kind::Init => INIT,
+        Kind::Data => DATA,
+        Kind::Feedback => FEEDBACK,
+        Kind::Close => CLOSE,
+    }
+}
+
+// The field number k, from 0, of the message that a schema number names. Data, 3, has no fields.
+pub fn item_at(schema: u32, k: usize) -> Item
+    ensures { λ r. ⌜ (r ≡ getD (items (partSchema schema) (slotAt schema)) k ended) × Placed r ⌝ }
+{
+    match schema {
+        REQUEST => request_item(k),
+        RESPONSE => response_item(k),
+        INIT => init_item(k),
+        FEEDBACK => feedback_item(k),
+        CLOSE => close_item(k),
+        REQUEST_META => request_meta_item(k),
+        RESPONSE_META => response_meta_item(k),
+        _ => Item::End,
+    }
+}
+
+// The error code of the first ground that holds, 0 for none.
+pub fn content_error(c: Content, source: &[u8], rows: &[u32], body_size: usize) -> u32
+    ensures { λ r. ⌜ r ≡ contentError (c .kind) (c .values) (c .rows) (now (source .entry)) (now (rows .entry)) «body_size» ⌝ }
+{
+    let kind = c.kind;
+    let values = c.values;
+    let count = c.rows;
+    if !rows_ok(kind, count, rows.len()) {
+        return BAD_ROWS;
+    }
+    if !spans_within(kind, values, source.len()) {
+        return PAST_SOURCE;
+    }
+    if !rows_within(rows, count as usize, source.len()) {
+        return PAST_SOURCE;
+    }
+    if !keys_differ(source, rows, count as usize) {
+        return BAD_ROWS;
+    }
+    if !absent_ok(kind, values, count) {
+        return BAD_ROWS;
+    }
+    if !body_ok(kind, values, body_size) {
+        return BAD_BODY;
+    }
+    0
+}

@@ -1,0 +1,216 @@
+/*
+ * A small controller. A client's stream arrives in pieces of odd sizes; the frames are cut from it, the requests are read, and
+ * a job is queued for each. Then the jobs are taken, the one that is due first before the others, and each is answered with a
+ * response frame. bindings/rust/examples/controller.rs does the same and prints the same.
+ *
+ *     cc -Iinclude examples/controller.c target/staticlib/lib{bekurapi,queue_in_place}.a -o target/controller
+ *     target/controller
+ */
+#include <inttypes.h>
+#include <stdio.h>
+#include <stdlib.h>
+#include <string.h>
+
+#include "bekurapi.h"
+
+/* The number of the connection that the stream comes on. */
+#define CONNECTION 1
+
+/* A request of the client. The jobs are due in the order 2, 1, 3; the second 2 is refused, since 2 waits already. */
+struct order {
+    uint32_t id;
+    uint32_t timeout; /* in ms; 0 is no deadline */
+    const char *func;
+    const char *cell; /* the value of a key in the map */
+    const char *body;
+};
+
+static const struct order orders[] = {
+    {1, 4000000000, "/cell.Robot/Park", "4", ""},
+    {2, 600000, "/cell.Robot/Pick", "4", "crate 12"},
+    {3, 0, "/cell.Robot/Report", "7", "since noon"},
+    {2, 5000, "/cell.Robot/Pick", "4", "crate 12, again"},
+};
+
+/* The bytes that the starts of a record and its rows refer to. */
+struct source {
+    uint8_t bytes[128];
+    uint32_t length;
+};
+
+static const struct source no_source;
+static const struct trpc_row no_row;
+
+/* Puts a text behind the others, and returns where it stands. */
+static struct trpc_span append(struct source *source, const char *text)
+{
+    struct trpc_span span = {source->length, (uint32_t)strlen(text)};
+
+    memcpy(source->bytes + span.start, text, span.len);
+    source->length += span.len;
+    return span;
+}
+
+/* Writes a frame, with room for one row, and returns its size. That one is refused would be this program's fault. */
+static size_t write_frame(uint32_t kind, const void *record, const struct source *source, const struct trpc_row *row,
+                          const char *body, uint8_t *out, size_t room)
+{
+    size_t size;
+    uint32_t error = trpc_write(kind, record, TRPC_RECORD_NUMBERS, source->bytes, source->length, (const uint32_t *)row, 4,
+                                (const uint8_t *)body, strlen(body), out, room, &size);
+
+    if (error != 0) {
+        fprintf(stderr, "controller: a frame was refused with %" PRIu32 "\n", error);
+        exit(1);
+    }
+    return size;
+}
+
+static size_t write_order(const struct order *order, uint8_t *out, size_t room)
+{
+    struct source source = {.length = 0};
+    struct trpc_row row = {.key = append(&source, "cell"), .value = append(&source, order->cell)};
+    struct trpc_request request = {
+        .id = order->id,
+        .rows = 1,
+        .request_id = order->id,
+        .timeout = order->timeout,
+        .func = append(&source, order->func),
+    };
+
+    return write_frame(TRPC_REQUEST, &request, &source, &row, order->body, out, room);
+}
+
+/* A Feedback frame, which is no request, then the orders, then the beginning of a frame that never gets whole. */
+static size_t write_stream(uint8_t *out, size_t room)
+{
+    static const uint8_t beginning[] = {0x09, 0x30, 0, 0, 0, 0, 0};
+    struct trpc_feedback feedback = {.id = 5, .window_size_increment = 300};
+    size_t length = write_frame(TRPC_FEEDBACK, &feedback, &no_source, &no_row, "", out, room);
+
+    for (size_t i = 0; i < sizeof orders / sizeof *orders; i++)
+        length += write_order(&orders[i], out + length, room - length);
+    memcpy(out + length, beginning, sizeof beginning);
+    return length + sizeof beginning;
+}
+
+/* A part of the frame, as text. */
+static void print_part(const char *before, const uint8_t *frame, struct trpc_span part)
+{
+    printf("%s%.*s", before, (int)part.len, (const char *)frame + part.start);
+}
+
+static void print_request(const struct trpc_request *request, const uint8_t *frame, const struct trpc_row *rows)
+{
+    printf("request %" PRIu32 ", timeout %" PRIu32, request->id, request->timeout);
+    print_part(", func ", frame, request->func);
+    for (uint32_t i = 0; i < request->rows; i++) {
+        print_part(", ", frame, rows[i].key);
+        print_part(" = ", frame, rows[i].value);
+    }
+    print_part(", body \"", frame, request->body);
+    printf("\"\n");
+}
+
+/* Reads a frame as a request and queues a job for it. */
+static void accept_frame(struct trpc_queue *queue, const uint8_t *frame, size_t size, uint64_t now)
+{
+    struct trpc_request request;
+    struct trpc_row rows[TRPC_ROW_NUMBERS / 4];
+    uint32_t error = trpc_read(TRPC_REQUEST, frame, size, (uint32_t *)rows, TRPC_ROW_NUMBERS, (uint32_t *)&request,
+                               TRPC_RECORD_NUMBERS);
+
+    printf("frame of %zu bytes: ", size);
+    if (error != 0) {
+        printf("no request, error %" PRIu32 "\n", error);
+        return;
+    }
+    print_request(&request, frame, rows);
+    error = trpc_queue_add(queue, CONNECTION, request.id, request.timeout, now);
+    if (error == 0)
+        printf("  queued at %" PRIu64 " ms, %zu waiting\n", now, queue->count);
+    else
+        printf("  not queued, error %" PRIu32 "\n", error);
+}
+
+/* The state of the deframer and its buffer; all zero when fresh. */
+struct deframer {
+    size_t held;
+    uint32_t error;
+    uint8_t buffer[TRPC_MAX_FRAME];
+};
+
+/* Cuts the frames from a piece of the stream. Returns the error code, 0 for none. */
+static uint32_t receive_piece(struct deframer *deframer, struct trpc_queue *queue, const uint8_t *piece, size_t length,
+                              uint64_t now)
+{
+    size_t at = 0, taken, size;
+    uint32_t code;
+
+    do {
+        code = trpc_deframe(&deframer->held, &deframer->error, deframer->buffer, sizeof deframer->buffer, piece + at,
+                            length - at, &taken, &size);
+        at += taken;
+        if (size != 0)
+            accept_frame(queue, deframer->buffer, size, now);
+    } while (code == 0 && size != 0);
+    return code;
+}
+
+static void print_end(const struct deframer *deframer)
+{
+    size_t short_by;
+    uint32_t code =
+        trpc_finish(deframer->held, deframer->error, deframer->buffer, sizeof deframer->buffer, &short_by);
+
+    if (code != 0)
+        printf("the stream is refused with %" PRIu32 "\n", code);
+    else if (short_by != 0)
+        printf("the stream ends short, with %zu bytes held\n", short_by);
+    else
+        printf("the stream ends clean\n");
+}
+
+/* Receives the stream in pieces, one each millisecond. */
+static void receive(struct trpc_queue *queue, const uint8_t *stream, size_t length)
+{
+    static const size_t sizes[] = {1, 7, 31, 3, 19, 113};
+    static struct deframer deframer;
+    uint32_t code = 0;
+
+    for (uint64_t now = 0; length != 0 && code == 0; now++) {
+        size_t size = sizes[now % 6] < length ? sizes[now % 6] : length;
+
+        code = receive_piece(&deframer, queue, stream, size, now);
+        stream += size;
+        length -= size;
+    }
+    print_end(&deframer);
+}
+
+/* Answers a job. */
+static void answer(const struct trpc_job *job)
+{
+    struct trpc_response response = {.id = job->request, .request_id = job->request};
+    uint8_t frame[64];
+    size_t size = write_frame(TRPC_RESPONSE, &response, &no_source, &no_row, "done", frame, sizeof frame);
+
+    printf("request %" PRIu32 " is due first; its response:", job->request);
+    for (size_t i = 0; i < size; i++)
+        printf(" %02x", frame[i]);
+    printf("\n");
+}
+
+int main(void)
+{
+    static struct trpc_queue queue;
+    static uint8_t stream[1024];
+    struct trpc_job job;
+
+    trpc_queue_init(&queue);
+    receive(&queue, stream, write_stream(stream, sizeof stream));
+    while (trpc_queue_take(&queue, &job) == TRPC_QUEUE_DONE)
+        answer(&job);
+    printf("nothing waits\n");
+    return 0;
+}

@@ -1,0 +1,190 @@
+//! The reader of a frame.
+
+use crate::difference::{hex, same, Difference};
+use crate::generate::{damage, frame, Generator};
+use crate::lent::Lent;
+use crate::library;
+use crate::random::Random;
+use crate::reference::header::{first, SIZE, UNARY};
+use crate::reference::interface::{self, RECORD_NUMBERS};
+use crate::reference::messages::{Kind, ROW_NUMBERS};
+use crate::run::{Family, Tally};
+use crate::shrink::{fewer, lower, smaller_messages, Case};
+
+/// A frame read as a kind, with so many numbers lent for rows and record.
+#[derive(Clone)]
+pub struct Reading {
+    pub kind: u32,
+    pub frame: Vec<u8>,
+    pub rows: usize,
+    pub record: usize,
+}
+
+/// What stands in the numbers lent before the call.
+pub fn filled(count: usize, with: u32) -> Vec<u32> {
+    (0..count as u32).map(|place| with + place).collect()
+}
+
+impl Reading {
+    fn plain(kind: u32, frame: Vec<u8>) -> Reading {
+        Reading { kind, frame, rows: ROW_NUMBERS + 8, record: RECORD_NUMBERS + 2 }
+    }
+}
+
+impl Case for Reading {
+    fn compare(&self, tally: &mut Tally) -> Result<(), Difference> {
+        let (mut rows, mut record) = (filled(self.rows, 0xA5A5_0000), filled(self.record, 0x5A5A_0000));
+        let (mut lent_rows, mut lent_record) = (Lent::new(&rows, 0xBEEF), Lent::new(&record, 0xFEED));
+        let lent_frame = Lent::new(&self.frame, 0x08);
+
+        let expected = interface::read(self.kind, &self.frame, &mut rows, &mut record);
+        let actual = library::read(self.kind, lent_frame.get(), lent_rows.get_mut(), lent_record.get_mut());
+
+        tally.count(expected);
+        same(&"the error code", &expected, &actual)?;
+        lent_record.holds("the record", &record)?;
+        lent_rows.holds("the row numbers", &rows)?;
+        lent_frame.holds("the frame", &self.frame)
+    }
+
+    fn smaller(&self) -> Box<dyn Iterator<Item = Reading> + '_> {
+        let with = |frame| Reading { frame, ..self.clone() };
+        let slices = [(ROW_NUMBERS, RECORD_NUMBERS), (ROW_NUMBERS, self.record), (self.rows, RECORD_NUMBERS)]
+            .into_iter()
+            .filter(|(rows, record)| (*rows, *record) < (self.rows, self.record))
+            .map(|(rows, record)| Reading { rows, record, ..self.clone() });
+        let frames = smaller_frames(&self.frame).into_iter().chain(fewer(&self.frame)).chain(lower(&self.frame));
+        Box::new(slices.chain(frames.map(with)))
+    }
+
+    fn show(&self) -> String {
+        format!(
+            "trpc_read, kind {} with {} row numbers (A5A50000 and on) and {} of a record (5A5A0000 and on)\nframe, {} bytes: {}",
+            self.kind,
+            self.rows,
+            self.record,
+            self.frame.len(),
+            hex(&self.frame)
+        )
+    }
+}
+
+/// Smaller frames with sizes that fit again: without some of the body's bytes, and with a smaller message.
+pub fn smaller_frames(frame: &[u8]) -> Vec<Vec<u8>> {
+    if frame.len() < SIZE {
+        return Vec::new();
+    }
+    let fixed = first(frame);
+    let header_size = if fixed.data_type == UNARY { fixed.header_size } else { frame.len() - SIZE };
+    let (message, body) = frame[SIZE..].split_at(header_size.min(frame.len() - SIZE));
+    let with = |message: &[u8], body: &[u8]| {
+        let mut smaller = [&frame[..SIZE], message, body].concat();
+        let total = smaller.len() as u32;
+        smaller[4..8].copy_from_slice(&total.to_be_bytes());
+        if fixed.data_type == UNARY {
+            smaller[8..10].copy_from_slice(&(message.len() as u16).to_be_bytes());
+        }
+        smaller
+    };
+    let bodies = fewer(body).map(|body| with(message, &body));
+    let messages = smaller_messages(message).into_iter().chain(fewer(message)).map(|message| with(&message, body));
+    bodies.chain(messages).collect()
+}
+
+/// Every message of up to two bytes, of every kind that has one; three bytes of those that begin, end or bend a field.
+pub fn short_messages(family: &mut Family) {
+    const TELLING: [u8; 20] = [
+        0x00, 0x01, 0x02, 0x05, 0x07, 0x08, 0x0A, 0x0B, 0x0C, 0x0D, 0x0E, 0x10, 0x12, 0x20, 0x4A, 0x60, 0x7F, 0x80, 0x81,
+        0xFF,
+    ];
+    for kind in [Kind::Request, Kind::Response, Kind::Init, Kind::Feedback, Kind::Close] {
+        let mut check = |message: &[u8]| family.check(&Reading::plain(kind as u32, frame(kind, 7, message, &[])));
+        check(&[]);
+        for first in 0..=255 {
+            check(&[first]);
+            for second in 0..=255 {
+                check(&[first, second]);
+            }
+        }
+        for first in TELLING {
+            for second in TELLING {
+                for third in TELLING {
+                    check(&[first, second, third]);
+                }
+            }
+        }
+    }
+}
+
+fn kind(random: &mut Random) -> Kind {
+    let any = random.pick(&Kind::ALL);
+    // Data has no message: fewer of it.
+    if any == Kind::Data && !random.one_in(8) {
+        Kind::Request
+    } else {
+        any
+    }
+}
+
+fn message_frame(random: &mut Random) -> (Kind, Vec<u8>) {
+    let kind = kind(random);
+    let faults = random.pick(&[0, 0, 0, 1, 1, 2]);
+    let tidy = random.one_in(4);
+    let large = random.one_in(400);
+    let mut generator = Generator { random, tidy };
+    (kind, if large { generator.large_frame(kind) } else { generator.frame(kind, faults) })
+}
+
+/// Whole frames, and such with a field that breaks a rule.
+pub fn messages(family: &mut Family) {
+    for _ in 0..family.inputs {
+        let (kind, frame) = message_frame(&mut family.random);
+        family.check(&Reading::plain(kind as u32, frame));
+    }
+}
+
+/// Frames with bytes changed, dropped, added or cut off; some are read as another kind.
+pub fn damaged(family: &mut Family) {
+    for _ in 0..family.inputs {
+        let (mut kind, mut frame) = message_frame(&mut family.random);
+        damage(&mut family.random, &mut frame);
+        if family.random.one_in(16) {
+            kind = family.random.pick(&Kind::ALL);
+        }
+        family.check(&Reading::plain(kind as u32, frame));
+    }
+}
+
+/// Any bytes as the message of a good header.
+pub fn random_bytes(family: &mut Family) {
+    for _ in 0..family.inputs {
+        let random = &mut family.random;
+        let kind = kind(random);
+        let length = random.below(48);
+        // Low bytes are tags and lengths more often than high ones.
+        let narrow = random.pick(&[0xFF, 0xFF, 0x7F, 0x1F, 0x0F]);
+        let message: Vec<u8> = random.bytes(length).iter().map(|byte| byte & narrow).collect();
+        let body_size = random.below(6);
+        let body = if kind.is_unary() { random.bytes(body_size) } else { Vec::new() };
+        let id = random.u32();
+        let frame = frame(kind, id, &message, &body);
+        family.check(&Reading::plain(kind as u32, frame));
+    }
+}
+
+/// Row and record slices of other lengths, and kinds that there are not.
+pub fn lent_slices(family: &mut Family) {
+    for _ in 0..family.inputs {
+        let (kind, mut frame) = message_frame(&mut family.random);
+        let random = &mut family.random;
+        if random.one_in(4) {
+            damage(random, &mut frame);
+        }
+        let kind = if random.one_in(4) { random.pick(&[0, 1, 2, 3, 4, 5, 6, 7, 255, u32::MAX]) } else { kind as u32 };
+        let some = random.below(400);
+        let rows = random.pick(&[0, 1, 4, 255, 256, 256, 256, 257, 300, 300, some]);
+        let short = random.below(24);
+        let record = random.pick(&[0, 1, 2, 3, 7, 8, 9, 22, 23, 24, 25, 40, short]);
+        family.check(&Reading { kind, frame, rows, record });
+    }
+}

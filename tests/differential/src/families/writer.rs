@@ -1,0 +1,360 @@
+//! The writer of a frame.
+
+use crate::difference::{hex, same, Difference};
+use crate::lent::Lent;
+use crate::library;
+use crate::random::Random;
+use crate::reference::header::LARGEST;
+use crate::reference::interface::{self, RECORD_NUMBERS};
+use crate::reference::messages::Kind;
+use crate::reference::writer::frame;
+use crate::run::{Family, Tally};
+use crate::shrink::{each_less, fewer, less, lower, Case};
+
+/// A record to be written, and an output of so many bytes.
+#[derive(Clone)]
+pub struct Writing {
+    pub kind: u32,
+    pub record: Vec<u32>,
+    pub source: Vec<u8>,
+    pub rows: Vec<u32>,
+    pub body: Vec<u8>,
+    pub out: usize,
+}
+
+/// Where a record has what, by kind. Byte fields are named by the place of their start.
+pub struct Layout {
+    pub numbers: &'static [usize],
+    pub bytes: &'static [usize],
+    pub marks: &'static [usize],
+    pub attachment: Option<usize>,
+    pub has_rows: bool,
+}
+
+pub fn layout(kind: Kind) -> Layout {
+    let (numbers, bytes, marks, attachment, has_rows): (&[usize], &[usize], &[usize], _, _) = match kind {
+        Kind::Request => (&[8, 9, 10, 11, 18, 19, 20], &[12, 14, 16], &[], Some(21), true),
+        Kind::Response => (&[8, 9, 10, 11, 12, 15, 16, 17], &[13], &[], Some(18), true),
+        Kind::Init => (&[15, 17, 20, 21, 22], &[9, 11, 13, 18], &[8, 16], None, true),
+        Kind::Data => (&[], &[], &[], None, false),
+        Kind::Feedback => (&[8], &[], &[], None, false),
+        Kind::Close => (&[8, 9, 12, 13], &[10], &[], None, true),
+    };
+    Layout { numbers, bytes, marks, attachment, has_rows }
+}
+
+/// What stands in an output of so many bytes before the call.
+fn unwritten(count: usize) -> Vec<u8> {
+    (0..count).map(|place| 0xC3 ^ place as u8).collect()
+}
+
+impl Case for Writing {
+    fn compare(&self, tally: &mut Tally) -> Result<(), Difference> {
+        let Writing { kind, record, source, rows, body, .. } = self;
+        let mut out = unwritten(self.out);
+        let mut lent_out = Lent::new(&out, 0x5C);
+        let (lent_record, lent_rows) = (Lent::new(record, 7), Lent::new(rows, 1));
+        let (lent_source, lent_body) = (Lent::new(source, 0x73), Lent::new(body, 0x62));
+
+        let expected = interface::write(*kind, record, source, rows, body, &mut out);
+        let actual = library::write(
+            *kind,
+            lent_record.get(),
+            lent_source.get(),
+            lent_rows.get(),
+            lent_body.get(),
+            lent_out.get_mut(),
+        );
+        tally.count(expected.error);
+        same(&"the answer", &expected, &actual)?;
+        lent_out.holds("the output", &out)?;
+        lent_record.holds("the record", record)?;
+        lent_source.holds("the source", source)?;
+        lent_rows.holds("the row numbers", rows)?;
+        lent_body.holds("the body", body)
+    }
+
+    fn smaller(&self) -> Box<dyn Iterator<Item = Writing> + '_> {
+        let bodies = fewer(&self.body).chain(lower(&self.body)).map(|body| Writing { body, ..self.clone() });
+        let sources = fewer(&self.source).chain(lower(&self.source)).map(|source| Writing { source, ..self.clone() });
+        let rows = fewer(&self.rows).chain(each_less(&self.rows)).map(|rows| Writing { rows, ..self.clone() });
+        let without_row = (0..self.rows.len() / 4).filter_map(|row| {
+            let mut smaller = self.clone();
+            smaller.rows.drain(4 * row..4 * row + 4);
+            *smaller.record.get_mut(1)? = smaller.record[1].checked_sub(1)?;
+            Some(smaller)
+        });
+        let records = each_less(&self.record)
+            .chain((!self.record.is_empty()).then(|| self.record[..self.record.len() - 1].to_vec()))
+            .map(|record| Writing { record, ..self.clone() });
+        let outs = less(self.out as u64).map(|out| Writing { out: out as usize, ..self.clone() });
+        Box::new(bodies.chain(without_row).chain(records).chain(rows).chain(sources).chain(outs))
+    }
+
+    fn show(&self) -> String {
+        format!(
+            "trpc_write, kind {}\nrecord, {} numbers in hex: {:X?}\nsource, {} bytes: {}\nrows, {} numbers in hex: {:X?}\n\
+             body, {} bytes: {}\noutput of {} bytes",
+            self.kind,
+            self.record.len(),
+            self.record,
+            self.source.len(),
+            hex(&self.source),
+            self.rows.len(),
+            self.rows,
+            self.body.len(),
+            hex(&self.body),
+            self.out
+        )
+    }
+}
+
+impl Writing {
+    pub fn new(kind: Kind) -> Writing {
+        let record = vec![0; RECORD_NUMBERS];
+        Writing { kind: kind as u32, record, source: Vec::new(), rows: Vec::new(), body: Vec::new(), out: 0 }
+    }
+
+    fn kind(&self) -> Kind {
+        Kind::ALL[self.kind as usize]
+    }
+
+    /// The size of its frame, were there no output to be too short.
+    fn size(&self) -> Option<usize> {
+        let input = interface::input(self.kind, &self.record, &self.source, &self.rows, &self.body)?;
+        frame(&input).ok().map(|frame| frame.len())
+    }
+
+    /// A start and length within the source; an empty one anywhere in it.
+    fn span(&self, random: &mut Random) -> (u32, u32) {
+        let size = self.source.len();
+        if random.one_in(4) {
+            return (random.pick(&[0, 0, 1, size]).min(size) as u32, 0);
+        }
+        let start = random.between(0, size);
+        let longest = if random.one_in(12) { size - start } else { (size - start).min(9) };
+        (start as u32, random.between(0, longest) as u32)
+    }
+
+    fn put_span(&mut self, place: usize, (start, length): (u32, u32)) {
+        self.record[place] = start;
+        self.record[place + 1] = length;
+    }
+
+    /// A row more. Most keys are of three bytes, so that few are equal.
+    fn push_row(&mut self, random: &mut Random) {
+        let (mut key, value) = (self.span(random), self.span(random));
+        if self.source.len() >= 30 && !random.one_in(16) {
+            key = (random.below(self.source.len() - 3) as u32, 3);
+        }
+        self.rows.extend([key.0, key.1, value.0, value.1]);
+        self.record[1] = self.record[1].saturating_add(1);
+    }
+
+    /// A record that the writer takes, but for equal keys that come by chance and the output.
+    pub fn good(random: &mut Random) -> Writing {
+        let kind = random.pick(&[0, 0, 1, 1, 2, 2, 3, 4, 5, 5]);
+        let mut new = Writing::new(Kind::ALL[kind]);
+        let source_size = random.pick(&[0, 1, 30, 60, 300, 300, 700]);
+        new.source = random.bytes(source_size);
+        new.record[0] = random.number32();
+        let layout = layout(new.kind());
+        for place in layout.numbers {
+            new.record[*place] = if random.one_in(3) { 0 } else { random.number32() };
+        }
+        for place in layout.bytes {
+            let span = new.span(random);
+            new.put_span(*place, span);
+        }
+        for place in layout.marks {
+            // Any number but 0 marks a part as present.
+            new.record[*place] = random.pick(&[0, 0, 0, 1, 1, 1, 2, u32::MAX]);
+        }
+        if layout.has_rows {
+            let most = if source_size < 30 { 1 } else { 64 };
+            for _ in 0..random.pick(&[0, 0, 0, 1, 2, 3, 5, 8, 64]).min(most) {
+                new.push_row(random);
+            }
+        }
+        if new.kind() == Kind::Init {
+            new.empty_absent_parts(random);
+        }
+        let body_size = random.pick(&[0, 0, 1, 5, 20, 130, 700]);
+        if matches!(new.kind(), Kind::Request | Kind::Response | Kind::Data) {
+            new.body = random.bytes(body_size);
+        }
+        if let Some(place) = layout.attachment {
+            new.record[place] = random.pick(&[0, 0, 1, body_size / 2, body_size]).min(body_size) as u32;
+        }
+        new
+    }
+
+    fn empty_absent_parts(&mut self, random: &mut Random) {
+        let start = random.between(0, self.source.len()) as u32;
+        let empty = random.pick(&[(0, 0), (0, 0), (start, 0)]);
+        if self.record[8] == 0 {
+            for place in [9, 11, 13] {
+                self.put_span(place, empty);
+            }
+            self.record[15] = 0;
+            self.record[1] = 0;
+        }
+        if self.record[16] == 0 {
+            self.record[17] = 0;
+            self.put_span(18, empty);
+        }
+    }
+
+    /// An output as long as the frame, a little shorter or longer, or any; rows and record that are longer than needed.
+    fn with_slices(mut self, random: &mut Random) -> Writing {
+        let exact = self.size().unwrap_or(40);
+        let any = random.below(900);
+        self.out = random.pick(&[exact, exact, exact, exact + 1, exact + 40, exact + 700, exact - 1, any, 0]);
+        for place in 2..8 {
+            self.record[place] = random.pick(&[0, 0, 1, 77, u32::MAX]);
+        }
+        if random.one_in(4) {
+            let more = random.below(9);
+            self.rows.extend((0..more).map(|_| random.number32()));
+        }
+        match random.below(8) {
+            0 => self.record.resize(RECORD_NUMBERS + 3, 0xFFFF_FFFF),
+            1 => {
+                let used = self.record.iter().rposition(|number| *number != 0).map_or(0, |place| place + 1);
+                self.record.truncate(used);
+            }
+            2 => self.record.truncate(random.below(RECORD_NUMBERS)),
+            _ => {}
+        }
+        self
+    }
+
+    /// Gives a ground for a refusal, where its kind can have it.
+    fn fault(&mut self, random: &mut Random) {
+        let layout = layout(self.kind());
+        let size = self.source.len() as u32;
+        let border = random.pick(&[(size + 1, 0), (size, 1), (0, size + 1)]);
+        let wrapping =
+            random.pick(&[(u32::MAX, 0), (u32::MAX, 1), (u32::MAX, size), (1, u32::MAX), (size, u32::MAX - size)]);
+        let past = random.pick(&[border, wrapping]);
+        match random.below(11) {
+            0 => {
+                while self.rows.len() < 4 * 65 {
+                    self.push_row(random);
+                }
+                self.record[1] = random.pick(&[65, 65, 66, 1 << 30, u32::MAX]);
+            }
+            1 => self.record[1] = random.pick(&[65, 64, 1, 1 << 30, (1 << 30) + 1, u32::MAX]),
+            2 => self.push_row(random),
+            3 => {
+                self.push_row(random);
+                self.rows.truncate(self.rows.len() - random.between(1, 4));
+            }
+            4 | 5 if !layout.bytes.is_empty() => {
+                let place = random.pick(layout.bytes);
+                self.put_span(place, past);
+            }
+            6 => {
+                self.push_row(random);
+                let place = self.rows.len() - random.pick(&[4, 2]);
+                (self.rows[place], self.rows[place + 1]) = past;
+            }
+            7 => self.equal_keys(random),
+            8 if self.kind() == Kind::Init => {
+                self.record[random.pick(&[8, 16])] = 0;
+            }
+            9 => match layout.attachment {
+                Some(place) => {
+                    self.record[place] = random.pick(&[self.body.len() as u32 + 1, self.body.len() as u32 + 2, u32::MAX]);
+                }
+                None => self.body.push(random.byte()),
+            },
+            _ => {
+                let long = random.pick(&[65_520, 65_521, 65_536, 70_000]);
+                self.body = vec![random.byte(); long];
+            }
+        }
+    }
+
+    /// A row whose key is another's: the same place, or the same bytes elsewhere, or both empty.
+    fn equal_keys(&mut self, random: &mut Random) {
+        self.push_row(random);
+        self.push_row(random);
+        let rows = self.rows.len() / 4;
+        let (from, to) = (4 * random.below(rows - 1), 4 * (rows - 1));
+        let (start, length) = (self.rows[from], self.rows[from + 1]);
+        let copied = self.source.len() as u32;
+        let key = self.source.get(start as usize..start as usize + length as usize).unwrap_or(&[]).to_vec();
+        self.source.extend(key);
+        self.rows[to] = random.pick(&[start, copied]);
+        self.rows[to + 1] = length;
+    }
+}
+
+/// Records that are written, into outputs of every length.
+pub fn records(family: &mut Family) {
+    for _ in 0..family.inputs {
+        let random = &mut family.random;
+        let case = Writing::good(random).with_slices(random);
+        family.check(&case);
+    }
+}
+
+/// One ground for a refusal, or several at once, and kinds that there are not.
+pub fn grounds(family: &mut Family) {
+    for _ in 0..family.inputs {
+        let random = &mut family.random;
+        let mut case = Writing::good(random);
+        for _ in 0..random.pick(&[1, 1, 2, 2, 3]) {
+            case.fault(random);
+        }
+        let mut case = case.with_slices(random);
+        if random.one_in(32) {
+            case.kind = random.pick(&[6, 7, 256, u32::MAX]);
+        }
+        family.check(&case);
+    }
+}
+
+/// A record whose frame has around 65,536 bytes, by its body, by a byte field or by a row.
+pub fn large(random: &mut Random) -> Writing {
+    let mut case = Writing::good(random);
+    let total = LARGEST - 3 + random.below(7);
+    let byte = random.byte();
+    let layout = layout(case.kind());
+    if matches!(case.kind(), Kind::Request | Kind::Response | Kind::Data) && random.one_in(2) {
+        case.body.clear();
+        if let Some(place) = layout.attachment {
+            case.record[place] = 0;
+        }
+        case.body = vec![byte; total - case.size().unwrap_or(16)];
+        return case;
+    }
+    if case.kind() == Kind::Init {
+        case.record[8] = 1;
+        case.record[16] = 1;
+    }
+    // The source is long enough; the last byte field or the value of a new row fills the frame.
+    case.source.resize(LARGEST + 8, byte);
+    let length = (total - case.size().unwrap_or(16) - random.between(3, 8)) as u32;
+    let filling = (random.below(8) as u32, length);
+    match layout.bytes.last() {
+        Some(place) if random.one_in(2) => case.put_span(*place, filling),
+        _ => {
+            case.rows.truncate(4 * case.record[1] as usize);
+            case.rows.extend([LARGEST as u32 + 7, 1, filling.0, filling.1]);
+            case.record[1] += 1;
+        }
+    }
+    case
+}
+
+pub fn largest(family: &mut Family) {
+    for _ in 0..family.inputs {
+        let random = &mut family.random;
+        let mut case = large(random);
+        let exact = case.size().unwrap_or(LARGEST);
+        case.out = random.pick(&[exact, exact, exact - 1, exact + 5]);
+        family.check(&case);
+    }
+}

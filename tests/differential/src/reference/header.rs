@@ -1,0 +1,78 @@
+//! "The 16 bytes".
+
+/// The length of a fixed header.
+pub const SIZE: usize = 16;
+
+/// The largest total.
+pub const LARGEST: usize = 65_536;
+
+pub const UNARY: u8 = 0;
+pub const STREAM: u8 = 1;
+
+/// A fixed header, whether good or not. "Numbers are big-endian".
+pub struct FixedHeader {
+    pub magic: u16,
+    pub data_type: u8,
+    pub stream_type: u8,
+    pub total: usize,
+    pub header_size: usize,
+    pub id: u32,
+    pub reserved: u16,
+}
+
+impl FixedHeader {
+    pub fn of(bytes: &[u8; SIZE]) -> FixedHeader {
+        let b = |from: usize| u16::from_be_bytes([bytes[from], bytes[from + 1]]);
+        let wide = |from: usize| u32::from(b(from)) << 16 | u32::from(b(from + 2));
+        FixedHeader {
+            magic: b(0),
+            data_type: bytes[2],
+            stream_type: bytes[3],
+            total: wide(4) as usize,
+            header_size: usize::from(b(8)),
+            id: wide(10),
+            reserved: b(14),
+        }
+    }
+
+    /// "3-8 | header judge | magic; data type; stream type; total; header size; reserved", 0 for a good header.
+    pub fn error(&self) -> u32 {
+        if self.magic != 0x0930 {
+            3
+        } else if self.data_type != UNARY && self.data_type != STREAM {
+            4
+        } else if self.data_type == STREAM && !(1..=4).contains(&self.stream_type) {
+            5
+        } else if !(SIZE..=LARGEST).contains(&self.total) {
+            6
+        } else if self.header_size > self.largest_header_size() {
+            7
+        } else if self.reserved != 0 {
+            8
+        } else {
+            0
+        }
+    }
+
+    /// "unary: at most total less 16; stream: 0"
+    fn largest_header_size(&self) -> usize {
+        if self.data_type == UNARY {
+            self.total - SIZE
+        } else {
+            0
+        }
+    }
+}
+
+/// The judge of a fixed header. "Order: judge 9, then 3 to 8."
+pub fn judge(bytes: &[u8]) -> u32 {
+    match bytes.try_into() {
+        Ok(header) => FixedHeader::of(header).error(),
+        Err(_) => 9,
+    }
+}
+
+/// The fixed header at the start of bytes that hold one.
+pub fn first(bytes: &[u8]) -> FixedHeader {
+    FixedHeader::of(bytes[..SIZE].try_into().unwrap())
+}

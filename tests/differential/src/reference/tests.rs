@@ -1,0 +1,268 @@
+//! The reference itself: document 01's checked examples, and the frames that protoc wrote (crates/records, crates/writes).
+
+use super::deframer::{deframe, finish, uncut, Answer, End, State};
+use super::header::{judge, LARGEST};
+use super::interface::{read, write};
+use super::messages::Kind;
+use super::queue::{Job, Queue};
+use crate::generate::frame;
+
+/// The error code and the record of a frame.
+fn record(kind: Kind, frame: &[u8]) -> (u32, [u32; 24]) {
+    let mut record = [9; 24];
+    let error = read(kind as u32, frame, &mut [9; 256], &mut record);
+    (error, record)
+}
+
+fn message(kind: Kind, message: &[u8], body: &[u8]) -> (u32, [u32; 24]) {
+    record(kind, &frame(kind, 7, message, body))
+}
+
+const ID_7: [u8; 16] = [0x09, 0x30, 0, 0, 0, 0, 0, 0x10, 0, 0, 0, 0, 0, 7, 0, 0];
+
+fn with(changes: &[(usize, u8)]) -> [u8; 16] {
+    let mut header = ID_7;
+    for (place, byte) in changes {
+        header[*place] = *byte;
+    }
+    header
+}
+
+#[test]
+fn headers() {
+    assert_eq!(uncut(&[]), (vec![], End::Clean));
+    assert_eq!(judge(&ID_7), 0);
+    assert_eq!(record(Kind::Request, &ID_7), (0, std::array::from_fn(|place| if place == 0 { 7 } else { 0 })));
+    assert_eq!(judge(&with(&[(7, 15)])), 6);
+    assert_eq!(judge(&with(&[(5, 1), (7, 0)])), 0);
+    assert_eq!(judge(&with(&[(5, 1), (7, 1)])), 6);
+    assert_eq!(judge(&with(&[(0, 0x30), (1, 0x09)])), 3);
+    assert_eq!([0, 4, 5].map(|stream_type| judge(&with(&[(2, 1), (3, stream_type)]))), [5, 0, 5]);
+    assert_eq!([4, 5].map(|header_size| judge(&with(&[(7, 20), (9, header_size)]))), [0, 7]);
+    assert_eq!(judge(&with(&[(2, 1), (3, 2), (7, 20), (9, 1)])), 7);
+}
+
+#[test]
+fn messages() {
+    assert_eq!(message(Kind::Feedback, &[0x08, 0xAC, 0x02], &[]).1[8], 300);
+    assert_eq!(message(Kind::Request, &[0x20, 0x88, 0x27], &[]).1[11], 5_000);
+    assert_eq!(message(Kind::Request, &[0x20, 0x05, 0x20, 0x07], &[]).1[11], 7);
+    let nine_ff = |last| [&[0x20][..], &[0xFF; 9], &[last]].concat();
+    assert_eq!(message(Kind::Response, &nine_ff(1), &[]).1[11] as i32, -1);
+    assert_eq!(message(Kind::Request, &nine_ff(2), &[]).0, 10);
+    let attached = message(Kind::Response, &[0x60, 0x05], &[1; 5]).1;
+    assert_eq!((attached[18], &attached[6..8]), (5, &[18, 5][..]));
+    assert_eq!(message(Kind::Response, &[0x60, 0x05], &[1; 4]).0, 15);
+    assert_eq!(message(Kind::Response, &[0x58, 0x05], &[]), message(Kind::Response, &[0x58, 0x00], &[]));
+    assert_eq!(message(Kind::Request, &[0x7B, 0x7C], &[]).0, 0);
+    assert_eq!(message(Kind::Request, &[0x7B, 0x84, 0x01], &[]).0, 11);
+}
+
+#[test]
+fn listing() {
+    let bytes = [frame(Kind::Feedback, 5, &[0x08, 0xAC, 0x02], &[]), vec![0x09]].concat();
+    let (frames, end) = uncut(&bytes);
+    assert_eq!((frames.len(), frames[0].len(), end), (1, 19, End::Short(1)));
+    // "a stream of that one byte must end short"
+    let mut buffer = vec![0; LARGEST];
+    let step = deframe(State::default(), &mut buffer, &[0x30]);
+    assert_eq!((step.answer, step.taken), (Answer::More, 1));
+    assert_eq!(finish(step.next, &buffer), End::Short(1));
+}
+
+#[test]
+fn due_times() {
+    let mut queue = Queue::default();
+    for (request, timeout) in [(1, 0), (2, 4_000_000_000), (3, 600_000)] {
+        queue.add(Job { connection: 1, request, timeout, arrival: 0 }).unwrap();
+    }
+    let taken: Vec<u32> = std::iter::from_fn(|| queue.take().ok()).map(|job| job.timeout).collect();
+    assert_eq!(taken, [600_000, 4_000_000_000, 0]);
+    assert_eq!(queue.take(), Err(23));
+}
+
+// ---- The frames of crates/records: those that protoc wrote, with the values that it was given, and damaged ones. -------
+
+const RECORDS: &str = concat!(env!("CARGO_MANIFEST_DIR"), "/../../crates/records");
+const WRITES: &str = concat!(env!("CARGO_MANIFEST_DIR"), "/../../crates/writes");
+
+enum Prints {
+    Number,
+    Signed,
+    Bytes,
+    Mark,
+}
+use Prints::{Bytes, Mark, Number, Signed};
+
+#[rustfmt::skip]
+fn names(kind: Kind) -> (&'static str, Vec<(&'static str, Prints)>) {
+    match kind {
+        Kind::Request => (
+            "request",
+            vec![
+                ("version", Number), ("call_type", Number), ("request_id", Number), ("timeout", Number), ("caller", Bytes),
+                ("callee", Bytes), ("func", Bytes), ("message_type", Number), ("content_type", Number),
+                ("content_encoding", Number), ("attachment_size", Number),
+            ],
+        ),
+        Kind::Response => (
+            "response",
+            vec![
+                ("version", Number), ("call_type", Number), ("request_id", Number), ("ret", Signed), ("func_ret", Signed),
+                ("error_msg", Bytes), ("message_type", Number), ("content_type", Number), ("content_encoding", Number),
+                ("attachment_size", Number),
+            ],
+        ),
+        Kind::Init => (
+            "init",
+            vec![
+                ("request_meta", Mark), ("request_meta.caller", Bytes), ("request_meta.callee", Bytes),
+                ("request_meta.func", Bytes), ("request_meta.message_type", Number), ("response_meta", Mark),
+                ("response_meta.ret", Signed), ("response_meta.error_msg", Bytes), ("init_window_size", Number),
+                ("content_type", Number), ("content_encoding", Number),
+            ],
+        ),
+        Kind::Data => ("data", vec![]),
+        Kind::Feedback => ("feedback", vec![("window_size_increment", Number)]),
+        Kind::Close => (
+            "close",
+            vec![("close_type", Signed), ("ret", Signed), ("msg", Bytes), ("message_type", Number), ("func_ret", Signed)],
+        ),
+    }
+}
+
+fn hex(frame: &[u8], start: u32, length: u32) -> String {
+    frame[start as usize..][..length as usize].iter().map(|byte| format!("{byte:02x}")).collect()
+}
+
+/// What crates/records prints of a frame.
+fn printed(kind: Kind, frame: &[u8], lent: usize) -> String {
+    let before: Vec<u32> = (0..lent as u32).map(|place| 1 << 31 | place).collect();
+    let (mut rows, mut n) = (before.clone(), [9; 24]);
+    let error = read(kind as u32, frame, &mut rows, &mut n);
+    let mut lines = Vec::new();
+    for (name, part) in [("header", 2), ("body", 4), ("attachment", 6)] {
+        lines.push(format!("{name} {} {}", n[part + 1], hex(frame, n[part], n[part + 1])));
+    }
+    let row_numbers = 4 * n[1] as usize;
+    if error != 0 {
+        lines.push(format!("refused {error}"));
+    } else {
+        let (name, fields) = names(kind);
+        lines.push(format!("{name} {}", n[0]));
+        let mut numbers = n[8..].iter().copied();
+        let mut next = || numbers.next().unwrap();
+        for (name, prints) in fields {
+            lines.push(match prints {
+                Number => format!("{name} {}", next()),
+                Signed => format!("{name} {}", next() as i32),
+                Mark => format!("{name} {}", if next() == 1 { "present" } else { "absent" }),
+                Bytes => {
+                    let (start, length) = (next(), next());
+                    format!("{name} {start} {length} {}", hex(frame, start, length))
+                }
+            });
+        }
+        lines.push(format!("rows {}", n[1]));
+        for row in rows[..row_numbers].chunks(4) {
+            let [key, value] =
+                [&row[..2], &row[2..]].map(|span| format!("{} {} {}", span[0], span[1], hex(frame, span[0], span[1])));
+            lines.push(format!("row {key} {value}"));
+        }
+    }
+    let zeros = rows[row_numbers..].iter().filter(|number| **number == 0).count();
+    let kept = rows.iter().zip(&before).filter(|(after, before)| after == before).count();
+    lines.push(format!("numbers {row_numbers} zeros {zeros} kept {kept}"));
+    lines.join("\n") + "\n"
+}
+
+/// The cases of crates/records: label, kind, row numbers lent, frame.
+fn cases() -> Vec<(String, Kind, usize, Vec<u8>)> {
+    let input = std::fs::read(format!("{RECORDS}/stdin")).unwrap();
+    let mut rest = input.as_slice();
+    let mut cases = Vec::new();
+    while !rest.is_empty() {
+        let sizes = take(&mut rest, 8);
+        let label = String::from_utf8(take(&mut rest, sizes[0].into()).to_vec()).unwrap();
+        let frame = take(&mut rest, u32::from_be_bytes(sizes[4..8].try_into().unwrap()) as usize);
+        let lent = usize::from(u16::from_be_bytes([sizes[2], sizes[3]]));
+        cases.push((label, Kind::of(sizes[1].into()).unwrap(), lent, frame.to_vec()));
+    }
+    cases
+}
+
+fn take<'a>(rest: &mut &'a [u8], count: usize) -> &'a [u8] {
+    let (taken, behind) = rest.split_at(count);
+    *rest = behind;
+    taken
+}
+
+fn take_numbers(rest: &mut &[u8], count: usize) -> Vec<u32> {
+    take(rest, 4 * count).chunks(4).map(|bytes| u32::from_be_bytes(bytes.try_into().unwrap())).collect()
+}
+
+/// Bytes that are repeated up to a length.
+fn take_repeated(rest: &mut &[u8], given: u32, length: u32) -> Vec<u8> {
+    take(rest, given as usize).iter().copied().cycle().take(length as usize).collect()
+}
+
+#[test]
+fn frames_of_protoc() {
+    let expected = std::fs::read_to_string(format!("{RECORDS}/stdout")).unwrap();
+    let mut expected = expected.split("# ").skip(1);
+    for (label, kind, lent, frame) in cases() {
+        assert_eq!(format!("{label}\n{}", printed(kind, &frame, lent)), expected.next().unwrap(), "{label}");
+    }
+    assert_eq!(expected.next(), None);
+}
+
+/// What the reference has read of protoc's frames, it writes again, and as protoc wrote them but for those with zeros, repeated
+/// or unknown fields.
+#[test]
+fn frames_of_protoc_written_again() {
+    let (mut whole, mut equal) = (0, 0);
+    for (label, kind, _, frame) in cases() {
+        let (mut rows, mut n) = ([9; 256], [9; 24]);
+        if read(kind as u32, &frame, &mut rows, &mut n) != 0 {
+            continue;
+        }
+        let mut out = vec![0; LARGEST];
+        let body = &frame[n[4] as usize..][..n[5] as usize];
+        let written = write(kind as u32, &n, &frame, &rows, body, &mut out);
+        assert_eq!(written.error, 0, "{label}");
+        whole += 1;
+        equal += usize::from(out[..written.size] == frame);
+    }
+    assert_eq!((whole, equal), (662, 295));
+}
+
+/// The calls of crates/writes, but for those with a refused record, which the C interface has not.
+#[test]
+fn writes_of_protoc() {
+    let input = std::fs::read(format!("{WRITES}/stdin")).unwrap();
+    let expected = std::fs::read_to_string(format!("{WRITES}/stdout")).unwrap();
+    let mut expected = expected.split("# ").skip(1);
+    let mut rest = input.as_slice();
+    while !rest.is_empty() {
+        let head = take_numbers(&mut rest, 10);
+        let fields = take_numbers(&mut rest, 16);
+        let label = String::from_utf8(take(&mut rest, head[0] as usize).to_vec()).unwrap();
+        let rows = take_numbers(&mut rest, head[1] as usize);
+        let source = take_repeated(&mut rest, head[5], head[2]);
+        let body = take_repeated(&mut rest, head[6], head[3]);
+        let expected = expected.next().unwrap();
+        if Kind::of(head[7]).is_none() {
+            continue;
+        }
+        let record = [&[head[8], head[9], 0, 0, 0, 0, 0, 0], &fields[..]].concat();
+        let mut out = vec![0xA5; head[4] as usize];
+        let written = write(head[7], &record, &source, &rows, &body, &mut out);
+        let told = match written.error {
+            0 => format!("frame {} {}", written.size, hex(&out, 0, written.size as u32)),
+            error => format!("refused {error}"),
+        };
+        let kept = out[written.size..].iter().filter(|byte| **byte == 0xA5).count();
+        assert_eq!(format!("{label}\n{told}\nkept {kept}\n"), expected, "{label}");
+    }
+    assert_eq!(expected.next(), None);
+}
