@@ -14,8 +14,8 @@ use lib.Signed.{mag}
 use lib.ListN.{length, take, getD, replicate}
 use lib.Seq.{take-at}
 use Rattle.wire.specs.Varint.{twosComplement, lowI32}
-use Rattle.wire.specs.Writing.{signExtended}
-use Rattle.wire.proofs.ReadBack.{signed-back}
+use Rattle.field_writer.specs.Writing.{signExtended}
+use Rattle.field_writer.proofs.ReadBack.{signed-back}
 use Rattle.frame.specs.Header.{headerError, totalOf, idOf}
 use Rattle.decoder.specs.Rows.{rowNumbers, laidOut}
 use Rattle.decoder.specs.Fields.{Result, ok, refused, readMessage}

@@ -1,5 +1,4 @@
--- Demand 3 whole, that spans name the parts, and document 01's examples
-pub mod FaithfulReading
+-- That spans name the parts, and document 01's examples
 pub mod SpansStand
 pub mod Examples
 -- For the layers above

@@ -13,7 +13,6 @@ use Rattle.decoder.specs.Fields.{State, Result, ok, refused, readMessage}
 use Rattle.decoder.specs.Decoding.{schemaAt, decoded}
 use Rattle.decoder.specs.declared.Decoded.{Decoded}
 use Rattle.decoder.proofs.RowLaws.{drop-laid, length-laid}
-use Rattle.decoder.proofs.PartEnds.{part-rest}
 use Rattle.decoder.proofs.Answers.{Gives, Read, Decodes, decodes, all-cleared}
 use Rattle.message.specs.Records.{schemaOf, recordOf, attachmentSizeOf}
 use Rattle.message.specs.Frames.{Reading, headerOf, bodyOf, lastOf, untouched, finished, answered, readFrame}
@@ -23,23 +22,23 @@ use Rattle.message.specs.declared.Kind.{Kind}
 use Rattle.message.specs.declared.Record.{Record}
 use Rattle.message.specs.declared.frames.Parts.{Parts}
 use Rattle.message.proofs.Readings.{its-message}
-use Rattle.message.proofs.PartPlaces.{frame-size, within, header-part, body-rest, last-rest}
+use Rattle.message.proofs.PartPlaces.{frame-size, within, header-part, body-rest}
 
 -- ---- a refusal
-none : (code : ℕ) (f numbers : List ℕ) → PartsOf (untouched code numbers) f (noParts code) numbers
-none code f numbers =
+none : (code size : ℕ) (numbers : List ℕ) → PartsOf (untouched code numbers) size (noParts code) numbers
+none code size numbers =
     record {
       answer-is = refl;
-      header-is = refl;
-      body-is = refl;
-      attachment-is = refl;
       rows-are = refl;
-      placed = record { small = omega arith; header-at = refl; body-at = refl; attachment-at = refl };
+      small = omega arith;
+      header-at = refl;
+      body-at = refl;
+      attachment-at = refl;
     }
 
-pub refusal : {x : Reading} {f numbers : List ℕ} {p : Parts} {code : ℕ} → x ≡ untouched code numbers → p ≡ noParts code → PartsOf x f p numbers
-refusal {f} {numbers} {p} {code} e g =
-    subst (λ (x : Reading). PartsOf x f p numbers) (sym e) (subst (λ (p : Parts). PartsOf (untouched code numbers) f p numbers) (sym g) (none code f numbers))
+pub refusal : {x : Reading} {size : ℕ} {numbers : List ℕ} {p : Parts} {code : ℕ} → x ≡ untouched code numbers → p ≡ noParts code → PartsOf x size p numbers
+refusal {size} {numbers} {p} {code} e g =
+    subst (λ (x : Reading). PartsOf x size p numbers) (sym e) (subst (λ (p : Parts). PartsOf (untouched code numbers) size p numbers) (sym g) (none code size numbers))
 
 -- ---- what the decoder's answer tells of the reading x of a message
 abbrev error-of : Decoded → ℕ
@@ -130,14 +129,14 @@ module _ (kind : Kind) (f lent : List ℕ) (size id body n : ℕ) (d : Decoded) 
   pub few-decoded : d .error ≡ 0 → d .slots .rows ≤ 64
   few-decoded e = let (st, x, r) = succeeded result d numbers lent its e in omega (arith, ap rows-of (r .answer-is), r .few)
 
-  pub fields-refused : {p : Parts} → (d .error ≡ 0 → ⊥) → p ≡ noParts (d .error) → PartsOf (readFrame kind f lent) f p numbers
+  pub fields-refused : {p : Parts} → (d .error ≡ 0 → ⊥) → p ≡ noParts (d .error) → PartsOf (readFrame kind f lent) (length f) p numbers
   unfolding answered
   fields-refused n g =
       let (e, cleared) = failed result d numbers lent its n in
       refusal (answer ∙ ap (answered kind f lent) e ∙ ap (untouched (d .error)) (sym cleared)) g
 
   pub attachment-refused : {p : Parts} {a : ℕ} {last : List ℕ} → d .error ≡ 0 → a ≡ attachmentSizeOf kind (d .slots .values) → length f - body < a
-      → last ≡ cleared numbers → p ≡ noParts 15 → PartsOf (readFrame kind f lent) f p last
+      → last ≡ cleared numbers → p ≡ noParts 15 → PartsOf (readFrame kind f lent) (length f) p last
   attachment-refused {a} e is-a large last g =
       let (st, x, r) = succeeded result d numbers lent its e in
       let a-is : a ≡ attachmentSizeOf kind (st .slots) = is-a ∙ ap (attachmentSizeOf kind) (ap values-of (r .answer-is)) in
@@ -148,24 +147,19 @@ module _ (kind : Kind) (f lent : List ℕ) (size id body n : ℕ) (d : Decoded) 
 
   pub message-read : {r : Record} {a : ℕ} → d .error ≡ 0 → a ≡ attachmentSizeOf kind (d .slots .values) → a ≤ length f - body
       → r ≡ recordOf kind id (d .slots .values) (d .slots .rows)
-      → PartsOf (readFrame kind f lent) f (record { answer = r; places = record { header = 16; body = body; attachment = length f - a; end = length f } }) numbers
+      → PartsOf (readFrame kind f lent) (length f) (record { answer = r; places = record { header = 16; body = body; attachment = length f - a; end = length f } }) numbers
   message-read {a} e is-a fits is-r =
       let (st, x, k) = succeeded result d numbers lent its e in
       let a-is : a ≡ attachmentSizeOf kind (st .slots) = is-a ∙ ap (attachmentSizeOf kind) (ap values-of (k .answer-is)) in
       let all = answer ∙ ap (answered kind f lent) x ∙ attached kind f lent st (omega (arith, body-length, a-is)) in
       rw all (record {
         answer-is = is-r ∙ same-record kind (whole .id-is) (ap values-of (k .answer-is)) (ap rows-of (k .answer-is));
-        header-is = head;
-        body-is = part-rest f body ∙ sym rest;
-        attachment-is = last-rest f body a (bounds .1) fits ∙ rw (a-is, rest);
         rows-are = k .laid;
-        placed = record {
-          small = omega (arith, bounds, frame-size kind f size id whole);
-          header-at = ap (spanFrom 16) (sym header-length);
-          body-at = end-span (bounds .1) body-length;
-          attachment-at =
-              end-span
-              (omega arith)
-              (length-drop (length (bodyOf kind f) - attachmentSizeOf kind (st .slots)) (bodyOf kind f) ∙ omega (arith, body-length, a-is, bounds));
-        };
+        small = omega (arith, bounds, frame-size kind f size id whole);
+        header-at = ap (spanFrom 16) (sym header-length);
+        body-at = end-span (bounds .1) body-length;
+        attachment-at =
+            end-span
+            (omega arith)
+            (length-drop (length (bodyOf kind f) - attachmentSizeOf kind (st .slots)) (bodyOf kind f) ∙ omega (arith, body-length, a-is, bounds));
       })

@@ -1,14 +1,14 @@
 -- Where the parts of a whole frame stand
 use Prim.Native.Nat.{ℕ, _+_, _-_, _≤_}
-use mathlib.Core.Path.{_≡_, refl, sym, ap, _∙_}
+use mathlib.Core.Path.{_≡_, refl, sym}
 use mathlib.Core.List.{List}
 use native.Mathlib.Omega.{arith}
-use lib.ListN.{length, drop, length-drop}
-use lib.Seq.{drop-drop, drop-length}
+use lib.ListN.{length, drop}
+use lib.Seq.{drop-length}
 use Rattle.frame.specs.Header.{maxFrame, headerSizeOf}
 use Rattle.wire.specs.Part.{part}
 use Rattle.decoder.proofs.PartEnds.{part-rest}
-use Rattle.message.specs.Frames.{headerOf, bodyOf, lastOf}
+use Rattle.message.specs.Frames.{headerOf, bodyOf}
 use Rattle.message.specs.Parts.{bodyAt, Whole}
 use Rattle.message.specs.declared.Kind.{Kind}
 use Rattle.message.specs.declared.Kind.the-variants as kinds
@@ -54,9 +54,3 @@ body-rest kinds.Init f = sym (drop-length f)
 body-rest kinds.Data f = refl
 body-rest kinds.Feedback f = sym (drop-length f)
 body-rest kinds.Close f = sym (drop-length f)
-
--- the attachment up to the end
-pub last-rest : (f : List ℕ) (body n : ℕ) → body ≤ length f → n ≤ length f - body → part f (length f - n) (length f) ≡ lastOf n (drop body f)
-last-rest f body n h k =
-    let e : body + (length (drop body f) - n) ≡ length f - n = omega (arith, length-drop body f) in
-    part-rest f (length f - n) ∙ ap (λ (m : ℕ). drop m f) (sym e) ∙ sym (drop-drop (length (drop body f) - n) body f)

@@ -10,19 +10,13 @@ use lib.Dec.{eqb, ltb, leb}
 use lib.ListN.{length, take, drop, getD, length-drop, drop-of-length-le}
 use lib.Seq.{length-take-le, take-all, drop-drop, drop-length}
 use Rattle.frame.specs.Header.{headerError, totalOf, headerSizeOf, idOf}
-use Rattle.wire.specs.Part.{part}
 use Rattle.decoder.specs.Rows.{rowNumbers, laidOut}
 use Rattle.decoder.specs.Fields.{Result, ok, refused, readMessage}
 use Rattle.message.specs.Records.{schemaOf, recordOf, attachmentSizeOf}
 use Rattle.message.specs.Frames.{Reading, headerOf, bodyOf, lastOf, kindFits, untouched, finished, answered, readFrame}
-use Rattle.message.specs.Spans.{spanFrom, spansOf}
+use Rattle.message.specs.Spans.{spanFrom, bytesAt, spansOf}
 use Rattle.message.specs.declared.Kind.{Kind}
 use Rattle.message.specs.declared.Kind.the-variants as kinds
-use Rattle.message.specs.declared.Span.{Span}
-
--- the bytes that a span names
-abbrev pub bytesAt : List ℕ → Span → List ℕ
-bytesAt f s = part f (s .start) (s .start + s .len)
 
 pub record Stands (f : List ℕ) (x : Reading) : Type 0 where
   pub header-stands : bytesAt f (spansOf x (length f) .header) ≡ x .header

@@ -17,19 +17,19 @@ use Rattle.message.proofs.Readings.{bad-header, not-whole, other-kind}
 use Rattle.message.proofs.Messages.{refusal}
 
 module _ (kind : Kind) (f lent : List ℕ) (rows : rowNumbers ≤ length lent) (long : 16 ≤ length f) where
-  pub header-refused : {p : Parts} (code : ℕ) → Refused code ≡ parsed (take 16 f) → p ≡ noParts code → PartsOf (readFrame kind f lent) f p lent
+  pub header-refused : {p : Parts} (code : ℕ) → Refused code ≡ parsed (take 16 f) → p ≡ noParts code → PartsOf (readFrame kind f lent) (length f) p lent
   header-refused code e g =
       let (bad, code-is) = parsed-refused f code e in
       refusal (bad-header kind f lent rows long bad ∙ ap (λ (n : ℕ). untouched n lent) (sym code-is)) g
 
   module _ (x : FixedHeader) (good : Good x ≡ parsed (take 16 f)) where
-    pub size-refused : {p : Parts} → (length f ≡ x .total → ⊥) → p ≡ noParts 9 → PartsOf (readFrame kind f lent) f p lent
+    pub size-refused : {p : Parts} → (length f ≡ x .total → ⊥) → p ≡ noParts 9 → PartsOf (readFrame kind f lent) (length f) p lent
     size-refused n g =
         let s = parsed-good f x good in
         refusal (not-whole kind f lent rows long (s .good) (λ e. n (e ∙ sym (s .total-is)))) g
 
     pub kind-refused : {p : Parts} → length f ≡ x .total → kindFits kind (getD f 2 0) (getD f 3 0) ≡ false → p ≡ noParts 9
-        → PartsOf (readFrame kind f lent) f p lent
+        → PartsOf (readFrame kind f lent) (length f) p lent
     kind-refused e k g =
         let s = parsed-good f x good in
         refusal (other-kind kind f lent rows long (s .good) (e ∙ s .total-is) k) g

@@ -1,6 +1,5 @@
--- What the contracts of `message` cite, in the order of document 01, "The messages", and demand 3 whole
+-- What the contracts of `message` cite, in the order of document 01, "The messages"
 pub mod Records
 pub mod Frames
 pub mod Spans
 pub mod Parts
-pub mod Stream

@@ -5,30 +5,21 @@ use mathlib.Core.Bool.{true}
 use mathlib.Core.List.{List}
 use lib.ListN.{length, take, getD}
 use Rattle.frame.specs.Header.{maxFrame, headerError, totalOf, headerSizeOf, idOf}
-use Rattle.wire.specs.Part.{part}
 use Rattle.message.specs.Frames.{Reading, kindFits}
 use Rattle.message.specs.Spans.{spanFrom, spansOf}
 use Rattle.message.specs.declared.Kind.{Kind}
 use Rattle.message.specs.declared.Kind.the-variants as kinds
 use Rattle.message.specs.declared.Record.the-variants.{Refused}
 use Rattle.message.specs.declared.frames.Parts.{Parts}
-use Rattle.message.specs.declared.frames.Places.{Places}
 
--- The places p are those of the spans of the reading x of a frame of that size.
-pub record Placed (x : Reading) (size : ℕ) (p : Places) : Type 0 where
-  pub small : (p .body ≤ maxFrame) × (p .end ≤ maxFrame)
-  pub header-at : spanFrom (p .header) (p .body - p .header) ≡ spansOf x size .header
-  pub body-at : spanFrom (p .body) (p .end - p .body) ≡ spansOf x size .body
-  pub attachment-at : spanFrom (p .attachment) (p .end - p .attachment) ≡ spansOf x size .attachment
-
--- The parts of the frame f at the places p, with the record and the row numbers, are the reading x.
-pub record PartsOf (x : Reading) (f : List ℕ) (p : Parts) (numbers : List ℕ) : Type 0 where
+-- The record and the row numbers are those of the reading x of a frame of that size, and the places are those of its spans.
+pub record PartsOf (x : Reading) (size : ℕ) (p : Parts) (numbers : List ℕ) : Type 0 where
   pub answer-is : p .answer ≡ x .answer
-  pub header-is : part f (p .places .header) (p .places .body) ≡ x .header
-  pub body-is : part f (p .places .body) (p .places .end) ≡ x .body
-  pub attachment-is : part f (p .places .attachment) (p .places .end) ≡ x .attachment
   pub rows-are : numbers ≡ x .rows
-  pub placed : Placed x (length f) (p .places)
+  pub small : (p .places .body ≤ maxFrame) × (p .places .end ≤ maxFrame)
+  pub header-at : spanFrom (p .places .header) (p .places .body - p .places .header) ≡ spansOf x size .header
+  pub body-at : spanFrom (p .places .body) (p .places .end - p .places .body) ≡ spansOf x size .body
+  pub attachment-at : spanFrom (p .places .attachment) (p .places .end - p .places .attachment) ≡ spansOf x size .attachment
 
 -- a refusal has no parts
 abbrev pub noParts : (code : ℕ) → Parts

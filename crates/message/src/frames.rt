@@ -1,6 +1,5 @@
 // A frame read as a kind: which frames fit it, what its message says and where its parts stand.
 use crate::Kind;
-use crate::Reading;
 use crate::Record;
 use crate::Span;
 use crate::records::attachment_size;
@@ -19,7 +18,6 @@ ghost use lib.Dec.{eqb};
 ghost use mathlib.Core.Bool.{_&&_};
 ghost use Rattle.frame.specs.Header.{maxFrame, parsed};
 ghost use Rattle.frame.specs.declared.Parsed.the-variants.{Good};
-ghost use Rattle.wire.specs.Part.{part};
 ghost use Rattle.message.specs.Frames.{kindFits, readFrame};
 ghost use Rattle.decoder.specs.Rows.{rowNumbers};
 ghost use Rattle.message.specs.Records.{schemaOf};
@@ -111,7 +109,7 @@ fn body_at(kind: Kind, header_size: usize, size: usize) -> usize
 // The message of a frame that is whole and of its kind.
 fn read_message(kind: Kind, frame: &[u8], header_size: usize, id: u32, rows: &mut [u32]) -> Parts
     requires { ⌜ (rowNumbers ≤ length (now rows)) × Whole kind (now frame) «header_size» id ⌝ }
-    ensures { λ r. ⌜ PartsOf (readFrame kind (now (frame .entry)) (now (rows .entry))) (now (frame .entry)) r (now (rows .exit)) ⌝ }
+    ensures { λ r. ⌜ PartsOf (readFrame kind (now (frame .entry)) (now (rows .entry))) (length (now (frame .entry))) r (now (rows .exit)) ⌝ }
 {
     let size = frame.len();
     let body = body_at(kind, header_size, size);
@@ -141,7 +139,7 @@ fn read_message(kind: Kind, frame: &[u8], header_size: usize, id: u32, rows: &mu
 // A frame with a good fixed header.
 fn read_whole(kind: Kind, frame: &[u8], header: FixedHeader, rows: &mut [u32]) -> Parts
     requires { ⌜ (rowNumbers ≤ length (now rows)) × (16 ≤ length (now frame)) × (Good header ≡ parsed (take 16 (now frame))) ⌝ }
-    ensures { λ r. ⌜ PartsOf (readFrame kind (now (frame .entry)) (now (rows .entry))) (now (frame .entry)) r (now (rows .exit)) ⌝ }
+    ensures { λ r. ⌜ PartsOf (readFrame kind (now (frame .entry)) (now (rows .entry))) (length (now (frame .entry))) r (now (rows .exit)) ⌝ }
 {
     if frame.len() != header.total {
         return refused(9);
@@ -154,7 +152,7 @@ fn read_whole(kind: Kind, frame: &[u8], header: FixedHeader, rows: &mut [u32]) -
 
 // A frame read as a kind: the order of the error codes is 16; 9 for fewer than 16 bytes; 3 to 8; 9; 10 to 14; 15.
 pub(crate) fn read_parts(kind: Kind, frame: &[u8], rows: &mut [u32]) -> Parts
-    ensures { λ r. ⌜ PartsOf (readFrame kind (now (frame .entry)) (now (rows .entry))) (now (frame .entry)) r (now (rows .exit)) ⌝ }
+    ensures { λ r. ⌜ PartsOf (readFrame kind (now (frame .entry)) (now (rows .entry))) (length (now (frame .entry))) r (now (rows .exit)) ⌝ }
 {
     if rows.len() < ROW_NUMBERS {
         return refused(16);
@@ -180,37 +178,5 @@ pub(crate) fn span(start: usize, end: usize) -> Span
     Span {
         start: start as u32,
         len: (end - start) as u32,
-    }
-}
-
-// The bytes of the frame from one place up to another, as far as they exist.
-fn between(frame: &[u8], start: usize, end: usize) -> &[u8]
-    ensures { λ r. ⌜ now r ≡ part (now (frame .entry)) start end ⌝ }
-{
-    let size = frame.len();
-    if size <= start {
-        return &frame[0..0];
-    }
-    if end <= start {
-        return &frame[0..0];
-    }
-    if size < end {
-        return &frame[start..];
-    }
-    &frame[start..end]
-}
-
-// The answer beside the parts of the caller's frame at their places.
-pub(crate) fn reading_of<'a>(frame: &'a [u8], answer: Record, places: Places) -> Reading<'a>
-    ensures { λ r. ⌜ (r .«record» ≡ answer)
-        × (now (r .header) ≡ part (now (frame .entry)) (places .header) (places .body))
-        × (now (r .body) ≡ part (now (frame .entry)) (places .body) (places .end))
-        × (now (r .attachment) ≡ part (now (frame .entry)) (places .attachment) (places .end)) ⌝ }
-{
-    Reading {
-        record: answer,
-        header: between(frame, places.header, places.body),
-        body: between(frame, places.body, places.end),
-        attachment: between(frame, places.attachment, places.end),
     }
 }

@@ -3,7 +3,6 @@ mod frames;
 pub mod records;
 
 use frames::read_parts;
-use frames::reading_of;
 use frames::span;
 ghost use mathlib.Core.Path.{_≡_};
 ghost use lib.ListN.{length};
@@ -113,27 +112,6 @@ pub enum Record {
     Refused(u32),
 }
 
-// What a frame reads as: the record or the error code, and the parts of the caller's frame, which are empty where it is
-// refused.
-pub struct Reading<'a> {
-    pub record: Record,
-    pub header: &'a [u8],
-    pub body: &'a [u8],
-    pub attachment: &'a [u8],
-}
-
-// Reads a frame as the kind that the caller expects. The map rows go to the first 256 of the lent numbers, four to a row.
-pub fn read<'a, 'b>(kind: Kind, frame: &'a [u8], rows: &'b mut [u32]) -> Reading<'a>
-    ensures { λ r. ⌜ (r .«record» ≡ readFrame kind (now (frame .entry)) (now (rows .entry)) .answer)
-        × (now (r .header) ≡ readFrame kind (now (frame .entry)) (now (rows .entry)) .header)
-        × (now (r .body) ≡ readFrame kind (now (frame .entry)) (now (rows .entry)) .body)
-        × (now (r .attachment) ≡ readFrame kind (now (frame .entry)) (now (rows .entry)) .attachment)
-        × (now (rows .exit) ≡ readFrame kind (now (frame .entry)) (now (rows .entry)) .rows) ⌝ }
-{
-    let parts = read_parts(kind, frame, rows);
-    reading_of(frame, parts.answer, parts.places)
-}
-
 // What a frame reads as, with its parts as starts and lengths; an empty one is 0, 0.
 pub struct Located {
     pub record: Record,
@@ -142,7 +120,7 @@ pub struct Located {
     pub attachment: Span,
 }
 
-// As `read`, for a caller that can hold no part of the frame.
+// Reads a frame as the kind that the caller expects. The map rows go to the first 256 of the lent numbers, four to a row.
 pub fn read_spans(kind: Kind, frame: &[u8], rows: &mut [u32]) -> Located
     ensures { λ r. ⌜ (r ≡ spansOf (readFrame kind (now (frame .entry)) (now (rows .entry))) (length (now (frame .entry))))
         × (now (rows .exit) ≡ readFrame kind (now (frame .entry)) (now (rows .entry)) .rows) ⌝ }

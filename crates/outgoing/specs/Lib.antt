@@ -1,5 +1,4 @@
--- Document 01, "The messages": the record to be written, and the grounds of refusal
+-- Document 01, "The messages": the record to be written
 pub mod Content
-pub mod Grounds
 -- The fields of a message as a list
 pub mod Items

@@ -1,15 +1,7 @@
-// The record to be written: its content, the fields of its message in their order, and the
-// grounds on which it is refused before its size is known.
-mod grounds;
+// The record to be written: its content, and the fields of its message in their order.
 mod kinds;
 mod table;
 
-use grounds::absent_ok;
-use grounds::body_ok;
-use grounds::keys_differ;
-use grounds::rows_ok;
-use grounds::rows_within;
-use grounds::spans_within;
 use kinds::close_content;
 use kinds::init_content;
 use kinds::request_content;
@@ -27,7 +19,6 @@ ghost use mathlib.Core.Path.{_≡_};
 ghost use lib.ListN.{getD};
 ghost use Rattle.decoder.specs.DecoderState.{partSchema, slotAt};
 ghost use Rattle.outgoing.specs.Content.{kindOf, recordId, rowCount, slotsOf};
-ghost use Rattle.outgoing.specs.Grounds.{contentError};
 ghost use Rattle.outgoing.specs.Items.{items, ended, Placed, schemaNumber};
 
 // The schema numbers: the messages, and the two parts of Init.
@@ -50,16 +41,6 @@ pub const RESPONSE_META: u32 = 7;
 
 // As many as the largest message has.
 pub const MAX_FIELDS: usize = 12;
-
-// 15: "attachment larger than body; writer: a body with Init, Feedback or Close"
-const BAD_BODY: u32 = 15;
-
-// 17: "a start plus length past the end of the source bytes, empty fields too"
-const PAST_SOURCE: u32 = 17;
-
-// 18: "over 64 rows, rows with Feedback or Data, row slice too short for them, equal keys, or a meta part marked absent and not
-// all zero, empty and rowless"
-const BAD_ROWS: u32 = 18;
 
 // What the writer takes from a record: kind, id, the fields by the order of the kind's schema, and the row count.
 pub struct Content {
@@ -154,32 +135,4 @@ pub fn item_at(schema: u32, k: usize) -> Item
         RESPONSE_META => response_meta_item(k),
         _ => Item::End,
     }
-}
-
-// The error code of the first ground that holds, 0 for none.
-pub fn content_error(c: Content, source: &[u8], rows: &[u32], body_size: usize) -> u32
-    ensures { λ r. ⌜ r ≡ contentError (c .kind) (c .values) (c .rows) (now (source .entry)) (now (rows .entry)) «body_size» ⌝ }
-{
-    let kind = c.kind;
-    let values = c.values;
-    let count = c.rows;
-    if !rows_ok(kind, count, rows.len()) {
-        return BAD_ROWS;
-    }
-    if !spans_within(kind, values, source.len()) {
-        return PAST_SOURCE;
-    }
-    if !rows_within(rows, count as usize, source.len()) {
-        return PAST_SOURCE;
-    }
-    if !keys_differ(source, rows, count as usize) {
-        return BAD_ROWS;
-    }
-    if !absent_ok(kind, values, count) {
-        return BAD_ROWS;
-    }
-    if !body_ok(kind, values, body_size) {
-        return BAD_BODY;
-    }
-    0
 }

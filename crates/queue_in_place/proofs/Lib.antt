@@ -1,4 +1,3 @@
--- What the walks share, from the general down, and then the theorem for a user.
+-- What the walks share, from the general down.
 pub mod Lent
 pub mod Structs
-pub mod Sequence

@@ -50,7 +50,7 @@ fn print_parts<'a>(
 // Reads a frame, prints its parts and answers its record. The reading holds references to the
 // parts, so all that is done with it here is to take it apart.
 fn read_frame<'a, 'b>(kind: Kind, frame: &'a [u8], rows: &'b mut [u32]) -> Record {
-    let reading = message::read(kind, frame, rows);
+    let reading = reader::read(kind, frame, rows);
     print_parts(
         reading.record,
         reading.header,

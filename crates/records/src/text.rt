@@ -23,7 +23,7 @@ pub(crate) fn print_number(name: &[u8], value: u32) {
 pub(crate) fn print_signed(name: &[u8], value: i32) {
     print_text(name);
     print_text(b" ");
-    print_integer(wire::sign_extend(value));
+    print_integer(field_writer::sign_extend(value));
     print_text(b"\n");
 }
 

@@ -16,7 +16,7 @@ use Rattle.message.specs.declared.Kind.{Kind}
 use Rattle.message.specs.declared.Kind.the-variants as kinds
 use Rattle.message.specs.declared.Record.{Record}
 use Rattle.outgoing.specs.Content.{kindOf, rowCount, slotsOf}
-use Rattle.outgoing.specs.Grounds.{maxRows, hasMap, rowsOk, spansWithin, rowsWithin, keysDiffer, absentOk, bodyOk}
+use Rattle.validation.specs.Grounds.{maxRows, hasMap, rowsOk, spansWithin, rowsWithin, keysDiffer, absentOk, bodyOk}
 use Rattle.writer.specs.Writing.{rowsOf, frameOf, writeError, wrote, refusedWith}
 use Rattle.writer.specs.declared.Encoded.the-variants.{Frame}
 use Rattle.round_trip.proofs.Said.{hasRows, kept}

@@ -14,7 +14,7 @@ use Rattle.message.specs.Records.{attachmentSizeOf}
 use Rattle.message.specs.declared.Record.{Record}
 use Rattle.message.specs.declared.Record.the-variants as records
 use Rattle.outgoing.specs.Content.{kindOf, recordId, rowCount, slotsOf}
-use Rattle.outgoing.specs.Grounds.{maxRows, hasMap, rowsOk}
+use Rattle.validation.specs.Grounds.{maxRows, hasMap, rowsOk}
 use Rattle.writer.specs.Writing.{rowsOf, messageOf, frameOf, maxHeader, writeError, refusedWith, writtenBy, written}
 use Rattle.round_trip.specs.Refusals.{Ground, ground, First, hasBody, groundsOf, grounds, Exactly}
 use Rattle.round_trip.proofs.FrameBack.{frame-length}

@@ -10,13 +10,13 @@ use native.Mathlib.Omega.{arith}
 use native.Mathlib.Nat.{mod-lt, mod-eq-of-lt, add-zero, add-assoc}
 use borrow.Author.Tests.{lt-ltb, eqb-true, ltb-false}
 use Rattle.wire.specs.Varint.{lowU32, twosComplement}
-use Rattle.wire.specs.Writing.{putVarint, signExtended, putTag, putBytes}
+use Rattle.field_writer.specs.Writing.{putVarint, signExtended, putTag, putBytes}
 use Rattle.decoder.specs.Schema.{Integer, uint32, int32, Schema, entry}
 use Rattle.decoder.specs.Rows.{Row}
 use Rattle.decoder.specs.Fields.{State, ok, blank, Reader, aNumber, someBytes, anEntry, look, setSlot, setBytes, addEntry, fieldsIn}
 use Rattle.decoder.specs.DecoderState.{taken, startOf}
 use Rattle.writer.specs.Encoding.{wide, putNumber, putSome, putEntry, putRows}
-use Rattle.outgoing.specs.Grounds.{keysDiffer}
+use Rattle.validation.specs.Grounds.{keysDiffer}
 use Rattle.round_trip.proofs.Written.{reads, headSize, length-bytes, number-step, bytes-step}
 use Rattle.round_trip.proofs.Landing.{zeros, numberAt, keyOf, valueOf, entryRow, rowsAt}
 use Rattle.round_trip.proofs.Keys.{enter-new}

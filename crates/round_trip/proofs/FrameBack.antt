@@ -17,7 +17,7 @@ use Rattle.message.specs.Parts.{Whole}
 use Rattle.message.specs.declared.Kind.{Kind}
 use Rattle.message.specs.declared.Kind.the-variants as kinds
 use Rattle.writer.specs.Encoding.{putFields}
-use Rattle.outgoing.specs.Grounds.{bodyOk}
+use Rattle.validation.specs.Grounds.{bodyOk}
 use Rattle.writer.specs.Writing.{dataType, streamType, headerSize, fixedHeader}
 
 -- ---- "Numbers are big-endian"

@@ -19,7 +19,7 @@ use Rattle.message.specs.declared.Record.{Record}
 use Rattle.message.specs.declared.Record.the-variants as records
 use Rattle.decoder.proofs.RowLaws.{same-true, same-equal, length-rowsIn}
 use Rattle.outgoing.specs.Content.{kindOf, rowCount, mark, slotsOf}
-use Rattle.outgoing.specs.Grounds.{spansWithin, rowsWithin, noKey, keysDiffer, allZero, absentOk, bodyOk}
+use Rattle.validation.specs.Grounds.{spansWithin, rowsWithin, noKey, keysDiffer, allZero, absentOk, bodyOk}
 use Rattle.writer.specs.Writing.{rowsOf}
 use Rattle.round_trip.specs.Refusals.{Some, spansOf, SpanPast, RowPast, keysOf, ComesAgain, AllZero, AbsentNotZero, requestMetaNumbers, responseMetaNumbers, PartNotZero, hasBody}
 

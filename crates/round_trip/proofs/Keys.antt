@@ -8,7 +8,7 @@ use lib.Dec.{eqb}
 use borrow.Author.Tests.{eq-eqb, ne-eqb, eqb-true, eqb-false}
 use Rattle.decoder.specs.Rows.{Row}
 use Rattle.decoder.specs.Fields.{sameBytes, enter}
-use Rattle.outgoing.specs.Grounds.{noKey, keysDiffer}
+use Rattle.validation.specs.Grounds.{noKey, keysDiffer}
 use Rattle.round_trip.specs.Meaning.{Pair, pairsOf}
 use Rattle.round_trip.proofs.Landing.{keyOf}
 

@@ -8,7 +8,7 @@ use lib.Seq.{take-append-seam, drop-append-seam, take-take, take-add, drop-drop}
 use lib.Dec.{eqb}
 use native.Mathlib.Omega.{arith}
 use Rattle.wire.specs.Varint.{lowU32}
-use Rattle.wire.specs.Writing.{putBytes}
+use Rattle.field_writer.specs.Writing.{putBytes}
 use Rattle.decoder.specs.Schema.{Integer, uint32, int32, Schema, done, number, bytes, map, message, width}
 use Rattle.decoder.specs.Rows.{Row}
 use Rattle.decoder.specs.Fields.{partOf}

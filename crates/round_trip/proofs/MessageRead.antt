@@ -12,7 +12,7 @@ use Rattle.decoder.specs.Schema.{Schema, width}
 use Rattle.decoder.specs.Rows.{Row}
 use Rattle.decoder.specs.Fields.{State, ok, fieldsIn, readMessage}
 use Rattle.writer.specs.Encoding.{putFields}
-use Rattle.outgoing.specs.Grounds.{keysDiffer, absentOk}
+use Rattle.validation.specs.Grounds.{keysDiffer, absentOk}
 use Rattle.round_trip.specs.Meaning.{InRange}
 use Rattle.round_trip.proofs.Said.{saidIn, hasRows, kept, MessageBack}
 use Rattle.round_trip.proofs.Formed.{WellFormed}

@@ -9,8 +9,8 @@ use lib.IntN.{ℤ}
 use lib.Signed.{mag}
 use lib.ListN.{getD}
 use Rattle.wire.specs.Varint.{twosComplement, lowI32}
-use Rattle.wire.specs.Writing.{signExtended}
-use Rattle.wire.proofs.ReadBack.{signed-back}
+use Rattle.field_writer.specs.Writing.{signExtended}
+use Rattle.field_writer.proofs.ReadBack.{signed-back}
 use Rattle.decoder.specs.Schema.{width}
 use Rattle.message.specs.Records.{schemaOf, recordOf, attachmentSizeOf}
 use Rattle.decoder.specs.Rows.{rowsIn}

@@ -11,13 +11,13 @@ use lib.Dec.{eqb}
 use native.Mathlib.Omega.{arith}
 use native.Mathlib.Nat.{add-zero}
 use borrow.Author.Tests.{eq-eqb, ne-eqb, eqb-true}
-use Rattle.wire.specs.Writing.{putBytes}
+use Rattle.field_writer.specs.Writing.{putBytes}
 use Rattle.decoder.specs.Schema.{Integer, uint32, int32, Schema, done, number, bytes, map, message, width}
 use Rattle.decoder.specs.Rows.{Row}
 use Rattle.decoder.specs.Fields.{State, Target, aNumber, someBytes, anEntry, aMessage, look, setSlot, fieldsIn}
 use Rattle.decoder.specs.DecoderState.{taken, startOf}
 use Rattle.writer.specs.Encoding.{putNumber, putSome, putRows, putFields}
-use Rattle.outgoing.specs.Grounds.{keysDiffer}
+use Rattle.validation.specs.Grounds.{keysDiffer}
 use Rattle.round_trip.specs.Meaning.{Said, unsigned, signed, present, text, InRange}
 use Rattle.round_trip.proofs.Said.{saidIn}
 use Rattle.round_trip.proofs.Formed.{Formed}

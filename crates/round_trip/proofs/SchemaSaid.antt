@@ -10,13 +10,13 @@ use lib.Dec.{eqb}
 use native.Mathlib.Omega.{arith}
 use borrow.Author.Tests.{ne-eqb, eqb-true}
 use Rattle.wire.specs.Varint.{twosComplement, lowI32}
-use Rattle.wire.specs.Writing.{putVarint, putTag, putBytes}
+use Rattle.field_writer.specs.Writing.{putVarint, putTag, putBytes}
 use Rattle.decoder.specs.Schema.{Integer, uint32, int32, Schema, done, number, bytes, map, message, width}
 use Rattle.decoder.specs.Rows.{Row}
 use Rattle.decoder.specs.Fields.{partOf}
 use Rattle.decoder.specs.DecoderState.{startOf}
 use Rattle.writer.specs.Encoding.{putNumber, putSome, putEntry, putRows, putFields}
-use Rattle.outgoing.specs.Grounds.{allZero, absentOk}
+use Rattle.validation.specs.Grounds.{allZero, absentOk}
 use Rattle.round_trip.specs.Meaning.{Said, unsigned, signed, Pair, pairsOf}
 use Rattle.round_trip.proofs.Said.{saidIn, hasRows, kept}
 use Rattle.round_trip.proofs.Formed.{hasParts, Formed}

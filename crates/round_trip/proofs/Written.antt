@@ -7,9 +7,9 @@ use lib.Seq.{take-append-seam, drop-append-seam, drop-at}
 use native.Mathlib.Omega.{arith}
 use Rattle.wire.specs.Varint.{lowU32}
 use Rattle.wire.specs.Fields.{varintField, bytesField, nextField}
-use Rattle.wire.specs.Writing.{putVarint, putTag, putBytes}
-use Rattle.wire.proofs.Encoding.{varint-bounds}
-use Rattle.wire.proofs.ReadBack.{varintField-back, bytesField-back}
+use Rattle.field_writer.specs.Writing.{putVarint, putTag, putBytes}
+use Rattle.field_writer.proofs.Encoding.{varint-bounds}
+use Rattle.field_writer.proofs.ReadBack.{varintField-back, bytesField-back}
 use Rattle.decoder.specs.Schema.{Schema}
 use Rattle.decoder.specs.Fields.{State, Result, ok, aNumber, look, setSlot, setNumber, oneField, fieldsIn}
 use Rattle.decoder.specs.DecoderState.{taken}

@@ -16,7 +16,7 @@ use Rattle.message.specs.declared.Init.{Init}
 use Rattle.message.specs.declared.Record.{Record}
 use Rattle.message.specs.declared.Record.the-variants as records
 use Rattle.outgoing.specs.Content.{kindOf, rowCount, bits, slotsOf}
-use Rattle.outgoing.specs.Grounds.{maxRows, hasMap}
+use Rattle.validation.specs.Grounds.{maxRows, hasMap}
 use Rattle.writer.specs.Writing.{rowsOf, messageOf, frameOf, maxHeader, Writing, refusedWith, wrote}
 use Rattle.writer.specs.declared.Encoded.the-variants.{Frame, Refused}
 

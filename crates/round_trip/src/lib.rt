@@ -1,1 +1,1 @@
-// What the writer accepts reads back as the same record: a theorem about `message::read` and `writer::write`, and no code.
+// What the writer accepts reads back as the same record: a theorem about `reader::read` and `writer::write`, and no code.

@@ -4,10 +4,6 @@ pub mod Bounds
 pub mod Ranges
 pub mod Fuel
 pub mod Local
-pub mod Encoding
-pub mod Outputs
-pub mod ReadBack
-pub mod RoundTrip
 pub mod Answers
 pub mod Places
 pub mod Examples

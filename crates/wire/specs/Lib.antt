@@ -5,5 +5,4 @@ pub mod Varint
 pub mod Tags
 pub mod Skipping
 pub mod Fields
-pub mod Writing
 pub mod Placed

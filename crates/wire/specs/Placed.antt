@@ -1,14 +1,10 @@
 -- What the answers of the code say: for each case the paper's number and values, as places of the slice. The reading starts at place `at`.
 use Prim.Native.Nat.{ℕ, _+_}
-use mathlib.Core.Bool.{cond}
-use mathlib.Core.List.{List}
-use lib.ListN.{length}
 use Rattle.wire.specs.Errors.{badVarint}
 use Rattle.wire.specs.Varint.{VarintResult, got, bad}
 use Rattle.wire.specs.Tags.{TagResult, field, ended, tagError, LengthResult, bytes, lengthError}
 use Rattle.wire.specs.Skipping.{SkipResult, skipped, skipError}
 use Rattle.wire.specs.Fields.{FieldResult, noField, varintField, fixed64Field, bytesField, groupField, fixed32Field, fieldError}
-use Rattle.wire.specs.Writing.{fits}
 use Rattle.wire.specs.declared.Varint.{Varint}
 use Rattle.wire.specs.declared.Varint.the-variants as varints
 use Rattle.wire.specs.declared.Tag.{Tag}
@@ -19,8 +15,6 @@ use Rattle.wire.specs.declared.Skip.{Skip}
 use Rattle.wire.specs.declared.Skip.the-variants as skips
 use Rattle.wire.specs.declared.Field.{Field}
 use Rattle.wire.specs.declared.Field.the-variants as fields
-use Rattle.wire.specs.declared.Written.{Written}
-use Rattle.wire.specs.declared.Written.the-variants as writes
 
 unfoldable pub varintAt : ℕ → VarintResult → Varint
 varintAt at (got v used) = varints.Value v (at + used)
@@ -47,7 +41,3 @@ fieldAt at (bytesField n used size) = fields.Bytes n (at + used) size
 fieldAt at (groupField n used) = fields.Group n (at + used)
 fieldAt at (fixed32Field n v used) = fields.Fixed32 n v (at + used)
 fieldAt at (fieldError code) = fields.Refused code
-
--- `x` was written to `out` from place `at`, or there was no room
-unfoldable pub writtenAt : List ℕ → ℕ → List ℕ → Written
-writtenAt out at x = cond (fits out at x) (writes.Next (at + length x)) writes.Full

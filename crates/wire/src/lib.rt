@@ -1,5 +1,5 @@
-// Protobuf fields: varints, tags, lengths, fields that are read, skipped and written. Document 01,
-// "Fields (Protobuf encoding)"; an error code is its refusal number.
+// Protobuf fields: varints, tags, lengths, fields that are read and skipped. Document 01, "Fields
+// (Protobuf encoding)"; an error code is its refusal number.
 //
 // A reader is given a slice `s` and the places `at` and `end` in it. Its part is the bytes of `s`
 // from `at` up to `end` that exist: none where `at` is past the end of the slice or not before `end`,
@@ -8,7 +8,6 @@
 mod contents;
 mod parts;
 mod skipping;
-mod storing;
 
 use contents::content_at;
 use parts::part_end;
@@ -16,18 +15,13 @@ use parts::wide;
 use skipping::skip_bytes;
 use skipping::skip_fixed;
 use skipping::skip_varint;
-use storing::has_room;
-use storing::put_content;
-use storing::put_varint;
 ghost use mathlib.Core.Path.{_≡_};
 ghost use Rattle.wire.specs.Part.{part};
 ghost use Rattle.wire.specs.Varint.{got, varint, lowU32, lowI32};
 ghost use Rattle.wire.specs.Tags.{split, tag, lengthPrefix};
 ghost use Rattle.wire.specs.Skipping.{skipValue, skipGroup};
 ghost use Rattle.wire.specs.Fields.{nextField};
-ghost use Rattle.wire.specs.Writing.{putVarint, putTag, putBytes, signExtended, stored};
-ghost use Rattle.wire.specs.Placed.{varintAt, tagAt, lengthAt, skipAt, fieldAt, writtenAt};
-ghost use lib.ListN.{length};
+ghost use Rattle.wire.specs.Placed.{varintAt, tagAt, lengthAt, skipAt, fieldAt};
 
 // 10: "varint bad or cut off"
 pub const BAD_VARINT: u32 = 10;
@@ -73,12 +67,6 @@ pub enum Field {
     Group(u32, usize),
     Fixed32(u32, u32, usize),
     Refused(u32),
-}
-
-// The next place of the output; or it has no room, and is unchanged.
-pub enum Written {
-    Next(usize),
-    Full,
 }
 
 // The varint at the start of the part.
@@ -249,64 +237,4 @@ pub fn low_i32(v: u64) -> i32
     } else {
         -1 - ((4294967295 - low) as i32)
     }
-}
-
-// What an int32 is written as: "A negative int32 is written in ten bytes".
-pub fn sign_extend(v: i32) -> u64
-    ensures { λ r. ⌜ r ≡ signExtended v ⌝ }
-{
-    if 0 <= v {
-        v as u64
-    } else {
-        18446744073709551615 - ((-1 - v) as u64)
-    }
-}
-
-// How many bytes the shortest varint of `v` takes: 1 to 10.
-pub fn varint_len(v: u64) -> usize
-    ensures { λ r. ⌜ r ≡ length (putVarint v) ⌝ }
-{
-    let mut rest = v;
-    let mut n: usize = 1;
-    while 128 <= rest {
-        rest = rest >> 7;
-        n += 1;
-    }
-    n
-}
-
-// Writes `v` as its shortest varint from the place `at` of the output.
-pub fn write_varint(v: u64, out: &mut [u8], at: usize) -> Written
-    ensures { λ r. ⌜ (r ≡ writtenAt (now (out .entry)) at (putVarint v)) × (now (out .exit) ≡ stored (now (out .entry)) at (putVarint v)) ⌝ }
-{
-    if has_room(out, at, varint_len(v)) {
-        Written::Next(put_varint(v, out, at))
-    } else {
-        Written::Full
-    }
-}
-
-// Writes a tag. Every number and wire type is taken: the value is number * 8 + wire_type, which is a
-// good tag from number 1 to 2^29 - 1 with a wire type up to 5.
-pub fn write_tag(number: u32, wire_type: u32, out: &mut [u8], at: usize) -> Written
-    ensures { λ r. ⌜ (r ≡ writtenAt (now (out .entry)) at (putTag number «wire_type»)) × (now (out .exit) ≡ stored (now (out .entry)) at (putTag number «wire_type»)) ⌝ }
-{
-    write_varint((number as u64) * 8 + (wire_type as u64), out, at)
-}
-
-// Writes a field of bytes: its tag, the length of its content, the content.
-pub fn write_bytes(number: u32, content: &[u8], out: &mut [u8], at: usize) -> Written
-    ensures { λ r. ⌜ (r ≡ writtenAt (now (out .entry)) at (putBytes number (now (content .entry)))) × (now (out .exit) ≡ stored (now (out .entry)) at (putBytes number (now (content .entry)))) ⌝ }
-{
-    let tag = (number as u64) * 8 + 2;
-    let size = content.len() as u64;
-    let head = varint_len(tag) + varint_len(size);
-    if has_room(out, at, head) {
-        if has_room(out, at + head, content.len()) {
-            let behind_tag = put_varint(tag, out, at);
-            let start = put_varint(size, out, behind_tag);
-            return Written::Next(put_content(content, out, start));
-        }
-    }
-    Written::Full
 }

@@ -6,7 +6,7 @@ use mathlib.Core.List.{List, [], _∷_, _++_}
 use lib.ListN.{length, drop, getD, drop-of-length-le}
 use native.Mathlib.Omega.{arith}
 use native.Mathlib.Numerals.{add-one}
-use Rattle.wire.specs.Writing.{putBytes}
+use Rattle.field_writer.specs.Writing.{putBytes}
 use Rattle.decoder.specs.Rows.{Row, rowsIn}
 use Rattle.decoder.proofs.RowLaws.{length-rowsIn, rowAt}
 use Rattle.frame.proofs.Codes.{both}
@@ -14,7 +14,7 @@ use Rattle.writer.specs.Encoding.{putEntry, putRows}
 use Rattle.outgoing.specs.Items.{ended, itemsOf, itemWithin, itemsWithin}
 use Rattle.writer.specs.Items.{Puts, putItem, putItems, bytesSize, entrySize, rowsSize, itemSize, itemsSize, rowAt as rowIn}
 use Rattle.outgoing.specs.declared.Item.{Item}
-use Rattle.outgoing.proofs.GroundLaws.{few-items}
+use Rattle.validation.proofs.GroundLaws.{few-items}
 use Rattle.writer.proofs.Outputs.{Left, first-fits, steps, none-left}
 
 -- ---- fields

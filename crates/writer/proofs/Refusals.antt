@@ -9,14 +9,14 @@ use native.Mathlib.Omega.{arith}
 use borrow.Author.Tests.{le-leb, leb-true, ne-eqb}
 use Rattle.frame.specs.Header.{maxFrame, unless}
 use Rattle.frame.proofs.Codes.{kept}
-use Rattle.wire.specs.Writing.{stored}
+use Rattle.field_writer.specs.Writing.{stored}
 use Rattle.message.specs.Records.{schemaOf}
 use Rattle.message.specs.declared.Kind.{Kind}
 use Rattle.message.specs.declared.Record.{Record}
 use Rattle.outgoing.specs.Content.{kindOf, recordId, rowCount, slotsOf}
-use Rattle.outgoing.specs.Grounds.{rowsOk, spansWithin, rowsWithin, keysDiffer, absentOk, bodyOk}
+use Rattle.validation.specs.Grounds.{rowsOk, spansWithin, rowsWithin, keysDiffer, absentOk, bodyOk}
 use Rattle.writer.specs.Writing.{maxHeader, headerSize, fixedHeader, rowsOf, messageOf, frameOf, writeError, writtenBy}
-use Rattle.outgoing.specs.Grounds.{contentError}
+use Rattle.validation.specs.Grounds.{contentError}
 use Rattle.writer.specs.Items.{sizeError, Puts, messageIn, frameWith, writtenWith}
 use Rattle.writer.specs.declared.Encoded.the-variants.{Frame, Refused}
 use Rattle.outgoing.specs.declared.Content.{Content}

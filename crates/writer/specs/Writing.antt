@@ -13,7 +13,7 @@ use Rattle.message.specs.declared.Record.{Record}
 use Rattle.message.specs.declared.Record.the-variants as records
 use Rattle.outgoing.specs.Content.{kindOf, recordId, rowCount, slotsOf}
 use Rattle.writer.specs.Encoding.{putFields}
-use Rattle.outgoing.specs.Grounds.{rowsOk, spansWithin, rowsWithin, keysDiffer, absentOk, bodyOk}
+use Rattle.validation.specs.Grounds.{rowsOk, spansWithin, rowsWithin, keysDiffer, absentOk, bodyOk}
 use Rattle.writer.specs.declared.Encoded.{Encoded}
 use Rattle.writer.specs.declared.Encoded.the-variants.{Frame, Refused}
 

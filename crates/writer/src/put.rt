@@ -5,6 +5,7 @@ use crate::sizes::Sizes;
 use crate::sizes::entry_size;
 use crate::sizes::value_at;
 use crate::sizes::widened;
+use field_writer::Written;
 use outgoing::Content;
 use outgoing::INIT;
 use outgoing::Item;
@@ -12,13 +13,12 @@ use outgoing::MAX_FIELDS;
 use outgoing::REQUEST_META;
 use outgoing::RESPONSE_META;
 use outgoing::item_at;
-use wire::Written;
 ghost use mathlib.Core.Path.{_≡_};
 ghost use mathlib.Core.Bool.{true};
 ghost use mathlib.Core.List.{_++_};
 ghost use Prim.Native.Nat.{_+_, _≤_};
 ghost use lib.ListN.{length};
-ghost use Rattle.wire.specs.Writing.{putTag, putVarint, putBytes};
+ghost use Rattle.field_writer.specs.Writing.{putTag, putVarint, putBytes};
 ghost use Rattle.decoder.specs.Fields.{partOf};
 ghost use Rattle.decoder.specs.Rows.{rowsIn};
 ghost use Rattle.writer.specs.Encoding.{putNumber, putSome, putEntry, putRows};
@@ -40,8 +40,8 @@ fn put_tagged(number: u32, wire_type: u32, value: u64, out: &mut [u8], at: usize
     requires { ⌜ at + length (putTag number «wire_type» ++ putVarint value) ≤ length (now out) ⌝ }
     ensures { λ r. ⌜ Puts (putTag number «wire_type» ++ putVarint value) (now (out .entry)) at r (now (out .exit)) ⌝ }
 {
-    let next = place_behind(wire::write_tag(number, wire_type, out, at), at);
-    place_behind(wire::write_varint(value, out, next), next)
+    let next = place_behind(field_writer::write_tag(number, wire_type, out, at), at);
+    place_behind(field_writer::write_varint(value, out, next), next)
 }
 
 fn put_number(number: u32, value: u32, signed: bool, out: &mut [u8], at: usize) -> usize
@@ -61,7 +61,10 @@ fn put_span(number: u32, start: u32, size: u32, source: &[u8], out: &mut [u8], a
 {
     let first = start as usize;
     let end = first + (size as usize);
-    place_behind(wire::write_bytes(number, &source[first..end], out, at), at)
+    place_behind(
+        field_writer::write_bytes(number, &source[first..end], out, at),
+        at,
+    )
 }
 
 // The same, left out where it is empty.

@@ -1,4 +1,4 @@
--- The places that `read_parts` answers are those of the definition's spans (`Placed`).
+-- The places that `read_parts` answers are those of the definition's spans (`PartsOf`).
 use Prim.Native.Nat.{ℕ}
 use mathlib.Core.Path.{_≡_, refl, _∙_}
 use borrow.Author.Needs.{needs}
@@ -19,13 +19,13 @@ read-parts-requires : tie.Need-read-parts-requires
 read-parts-requires c κs = search needs
 
 span-requires : tie.Need-span-requires
-span-requires c κs = c .before .before .before .read-parts .ensures .placed .small .0
+span-requires c κs = c .before .before .before .read-parts .ensures .small .0
 
 span-requires-2 : tie.Need-span-requires-2
-span-requires-2 c κs = c .before .before .before .before .read-parts .ensures .placed .small .1
+span-requires-2 c κs = c .before .before .before .before .read-parts .ensures .small .1
 
 span-requires-3 : tie.Need-span-requires-3
-span-requires-3 c κs = c .before .before .before .before .before .read-parts .ensures .placed .small .1
+span-requires-3 c κs = c .before .before .before .before .before .read-parts .ensures .small .1
 
 same-length : tie.Need-same-length
 same-length c = search needs
@@ -35,7 +35,7 @@ returns c =
     let at-read = c .before .before .before .before .before .before in
     let start = at-read .before .before .before .before in
     let read = at-read .read-parts .ensures in
-    (together (readFrame (start .args .kind) (start .args .frame .now) (start .args .rows .now)) (length (start .args .frame .now)) (read .answer-is) (c .before .before .span .ensures ∙ read .placed .header-at) (c .before .span2 .ensures ∙ read .placed .body-at) (c .span3 .ensures ∙ read .placed .attachment-at), read .rows-are)
+    (together (readFrame (start .args .kind) (start .args .frame .now) (start .args .rows .now)) (length (start .args .frame .now)) (read .answer-is) (c .before .before .span .ensures ∙ read .header-at) (c .before .span2 .ensures ∙ read .body-at) (c .span3 .ensures ∙ read .attachment-at), read .rows-are)
 
 pub read-spans-spec : {M : Type 1} → statement M
 read-spans-spec =

@@ -1,5 +1,5 @@
--- `read_frame` is safe and ends: a walk of its MIR, by hand, since a local holds a struct with references. Each callee takes what its contract asks: `message::read` the parameters
--- as they are, the row numbers for good, and `print_parts` the fields of the reading in their order. Of what `message::read` ensures nothing is needed here.
+-- `read_frame` is safe and ends: a walk of its MIR, by hand, since a local holds a struct with references. Each callee takes what its contract asks: `reader::read` the parameters
+-- as they are, the row numbers for good, and `print_parts` the fields of the reading in their order. Of what `reader::read` ensures nothing is needed here.
 use mathlib.Core.Path.{_≡_, refl, ap}
 use Prim.Native.Nat.{ℕ}
 use mathlib.Core.List.{List, [], _∷_}
@@ -43,17 +43,17 @@ use denote.Exit.{yes}
 use denote.Triple.Clauses.{ensured, lasts, atExit}
 use Rattle.message.specs.declared.Kind.{Kind}
 use Rattle.message.specs.declared.Record.{Record}
-use Rattle.message.specs.declared.Reading.{Reading}
+use Rattle.reader.specs.declared.Reading.{Reading}
 use Rattle.message.proofs.Kind as K
 use Rattle.message.proofs.Kind.Laws as K′
 use Rattle.message.proofs.Record as R
 use Rattle.message.proofs.Record.Laws as R′
-use Rattle.message.proofs.Reading as T
-use Rattle.message.proofs.Reading.Laws as T′
-use Rattle.message.proofs.read as read
-use Rattle.message.proofs.read.Symbol as read-def
-use Rattle.message.proofs.read.Symbol.{name as #message·read}
-use Rattle.message.proofs.read.Met as read-thm
+use Rattle.reader.proofs.Reading as T
+use Rattle.reader.proofs.Reading.Laws as T′
+use Rattle.reader.proofs.read as read
+use Rattle.reader.proofs.read.Symbol as read-def
+use Rattle.reader.proofs.read.Symbol.{name as #reader·read}
+use Rattle.reader.proofs.read.Met as read-thm
 use Rattle.records.proofs.print_parts as parts
 use Rattle.records.proofs.print_parts.Symbol as parts-def
 use Rattle.records.proofs.print_parts.Symbol.{name as #records·print-parts}
@@ -127,7 +127,7 @@ module _ {M : Type 1} (𝓤 : URA M) (H : Heap 𝓤) (A : Atoms 𝓤) (W : Given
   abbrev Post : Val → SProp 𝓤
   Post = walkOf 𝓤 H A f.ended stayed (f.clauses 𝓤 H A mem run) .post ((κs, (q, (q′, tt)), tt, args, at), tt)
 
-  -- the call of `message::read`
+  -- the call of `reader::read`
   abbrev to-read : Read 𝓤 H A mem run .Ghost
   to-read = ((κs, (q, (q′, tt)), tt, args, at), tt)
 
@@ -164,7 +164,7 @@ module _ {M : Type 1} (𝓤 : URA M) (H : Heap 𝓤) (A : Atoms 𝓤) (W : Given
       qed W ((‵ (flft κ q) ⊛ ‵ ftrue) ∷ (‵ (flft κ′ q′) ⊛ ‵ ftrue) ∷ ‵ (finally u32 (x .name) zs) ∷ ‵ (R.the-row .own t (u ∷ [])) ∷ []) ∵ suffices ! _ (ends t u zs l) $
       split ! $ move ! (0 ∷ 2 ∷ []) $ join ! $ frame ! $ drop ! $ nothing ! $ move ! (1 ∷ 0 ∷ []) $ fjoin ! $ nothing ! $ fjoin ! $ nothing ! $ fjoin ! $ frame ! $ done !
 
-  module _ (C : Calls 𝓤 H) (Λ : Loops 𝓤 H) (fm : FmC 𝓤 H (W .laws) C) (known-read : Triple 𝓤 (C #message·read) (Read 𝓤 H A mem run)) (known-parts : Triple 𝓤 (C #records·print-parts) (Parts 𝓤 H A mem run)) where
+  module _ (C : Calls 𝓤 H) (Λ : Loops 𝓤 H) (fm : FmC 𝓤 H (W .laws) C) (known-read : Triple 𝓤 (C #reader·read) (Read 𝓤 H A mem run)) (known-parts : Triple 𝓤 (C #records·print-parts) (Parts 𝓤 H A mem run)) where
     walk : Is K.the-row k (kval ∷ []) → Is Sl s (val s ∷ []) → Room u32 (length (now x)) → ent 𝓤 (onEntry 𝓤 H A f.signature κs (q, (q′, tt)) args at) (WpFn 𝓤 H C Λ code.function (kval ∷ val s ∷ val x ∷ []) Post)
     walk pk p room =
         qed W (raw (onEntry 𝓤 H A f.signature κs (q, (q′, tt)) args at) ∷ []) ∵ enter ! C Λ code.function (kval ∷ val s ∷ val x ∷ []) _ $
@@ -172,7 +172,7 @@ module _ {M : Type 1} (𝓤 : URA M) (H : Heap 𝓤) (A : Atoms 𝓤) (W : Given
         pass1 ! (init ! 18 refl (EL.lawful K.the-type K′.the-laws 𝓤 H A W tt .typed k _ pk .0)) $ pass1 ! (init ! 16 refl (shr-slice-lawful 𝓤 H A W (named 0) κ u8 .typed s (val s ∷ []) p .0)) $ pass1 ! (init ! 14 refl (tt, (tt, (record { fits = room .0 }, tt)))) $ pass0 ! $
         assigns ! (addr ! (from ! (fld ! refl (hop ! (look-in ! 14 (sub ! 0 refl (whole !))) (stop !))))) (from ! (stop !)) (init ! 10 refl (tt, tt)) $
         assigns ! (agg ! (and-then ! (load ! (from ! (stop !)) (look ! 10 refl)) (and-then ! (load ! (from ! (fld ! refl (stop !))) (look-in ! 14 (sub ! 1 refl (whole !)))) (no-more !)))) (from ! (stop !)) (init ! 8 refl (tt, (tt, (record { fits = room .0 }, tt)))) $
-        -- `message::read`
+        -- `reader::read`
         move ! (22 ∷ []) $ use1 W (raw (Read 𝓤 H A mem run .pre to-read)) goes-read $
         calls-at ! fm (Read 𝓤 H A mem run) known-read to-read (and-then ! (load ! (from ! (stop !)) (look ! 19 refl)) (and-then ! (load ! (from ! (stop !)) (look ! 17 refl)) (and-then ! (load ! (from ! (stop !)) (look ! 9 refl)) (no-more !)))) (λ u.
         use1 W (later (some (λ (r : Reading). ((‵ (flft κ q) ⊛ (‵ (flft κ′ q′) ⊛ ‵ ftrue)) ⊛ ‵ (T.the-row α .own r (u ∷ []))) ⊛ raw (ensured 𝓤 H A read.ended (read.clauses 𝓤 H A mem run) κs args tt r)))) (id⊢ 𝓤 _) $ await ! tt $ pick ! (λ r.
@@ -200,7 +200,7 @@ module _ {M : Type 1} (𝓤 : URA M) (H : Heap 𝓤) (A : Atoms 𝓤) (W : Given
         keep ! (1 ∷ 2 ∷ 3 ∷ 0 ∷ []) $ by ! (exits t u′ (zs .1 .1 .0) l)))))))))))))))))))))
 
 module _ {M : Type 1} (𝓤 : URA M) (H : Heap 𝓤) (A : Atoms 𝓤) (W : Given 𝓤 H A) (mem : Memory → SProp 𝓤) (run : Routine → Fun 𝓤) where
-  walks : (C : Calls 𝓤 H) (Λ : Loops 𝓤 H) → FmC 𝓤 H (W .laws) C → Triple 𝓤 (C #message·read) (Read 𝓤 H A mem run) → Triple 𝓤 (C #records·print-parts) (Parts 𝓤 H A mem run)
+  walks : (C : Calls 𝓤 H) (Λ : Loops 𝓤 H) → FmC 𝓤 H (W .laws) C → Triple 𝓤 (C #reader·read) (Read 𝓤 H A mem run) → Triple 𝓤 (C #records·print-parts) (Parts 𝓤 H A mem run)
       → Walks 𝓤 H A f.ended stayed (WpFn 𝓤 H C Λ code.function) (f.clauses 𝓤 H A mem run)
   walks C Λ fm known-read known-parts =
       walked 𝓤 H A f.ended stayed (f.clauses 𝓤 H A mem run) (WpFn 𝓤 H C Λ code.function) (λ κs. (EL.vals K.the-type K′.the-laws, (slice-vals, (slice-vals, tt))))
@@ -208,7 +208,7 @@ module _ {M : Type 1} (𝓤 : URA M) (H : Heap 𝓤) (A : Atoms 𝓤) (W : Given
       (λ κs qs bounds a g are. via 𝓤 _ (fst∗ 𝓤 _ (emp 𝓤)) (walk 𝓤 H A W mem run (κs .0) (κs .1 .0) (qs .0) (qs .1 .0) (a .0) (a .1 .0) (a .1 .1 .0) C Λ fm known-read known-parts (are .0) (are .1 .0) (are .1 .1 .0 .0 .1)))
 
 meets : {M : Type 1} (𝓤 : URA M) (H : Heap 𝓤) (A : Atoms 𝓤) (W : Given 𝓤 H A) (mem : Memory → SProp 𝓤) (run : Routine → Fun 𝓤) (𝓣 : Tables 𝓤 H)
-    → Triple 𝓤 (𝓣 .C #message·read) (Read 𝓤 H A mem run) → Triple 𝓤 (𝓣 .C #records·print-parts) (Parts 𝓤 H A mem run)
+    → Triple 𝓤 (𝓣 .C #reader·read) (Read 𝓤 H A mem run) → Triple 𝓤 (𝓣 .C #records·print-parts) (Parts 𝓤 H A mem run)
     → Meets 𝓤 H A f.signature (WpFn 𝓤 H (𝓣 .C) (𝓣 .Λ) code.function) (f.spec 𝓤 H A mem run)
 meets 𝓤 H A W mem run 𝓣 known-read known-parts =
     walk-meets 𝓤 H A f.ended stayed W
@@ -221,5 +221,5 @@ read-frame-spec 𝓤 H 𝓜 𝓖 𝓡 =
     entered 𝓤 H (tripleOf 𝓤 H (𝓖 .A) f.signature (f.spec 𝓤 H (𝓖 .A) (𝓜 .mem) (𝓡 .run))) (tables 𝓤 H 𝓜 𝓡 code.env .C) (tables 𝓤 H 𝓜 𝓡 code.env .Λ) #records·read-frame code.function
     (code.unfolded 𝓤 H 𝓜 𝓡)
     (meets 𝓤 H (𝓖 .A) (givenOf 𝓤 H 𝓜 𝓖) (𝓜 .mem) (𝓡 .run) (tablesOf 𝓤 H 𝓜 (tables 𝓤 H 𝓜 𝓡 code.env))
-    (cited 𝓤 H (Read 𝓤 H (𝓖 .A) (𝓜 .mem) (𝓡 .run)) 𝓜 𝓡 code.env #message·read read-def.routine code.calls-message·read (read-thm.met 𝓤 H 𝓜 𝓖 𝓡))
+    (cited 𝓤 H (Read 𝓤 H (𝓖 .A) (𝓜 .mem) (𝓡 .run)) 𝓜 𝓡 code.env #reader·read read-def.routine code.calls-reader·read (read-thm.met 𝓤 H 𝓜 𝓖 𝓡))
     (cited 𝓤 H (Parts 𝓤 H (𝓖 .A) (𝓜 .mem) (𝓡 .run)) 𝓜 𝓡 code.env #records·print-parts parts-def.routine code.calls-records·print-parts (parts-thm.met 𝓤 H 𝓜 𝓖 𝓡)))

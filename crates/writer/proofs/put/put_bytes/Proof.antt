@@ -5,7 +5,7 @@ use mathlib.Core.List.{List, [], _++_, append-assoc, append-nil}
 use lib.ListN.{length, take, drop, length-drop, drop-of-length-le}
 use lib.Seq.{take-all, drop-drop, take-length}
 use borrow.Author.Tests.{le-leb}
-use Rattle.wire.specs.Writing.{stored}
+use Rattle.field_writer.specs.Writing.{stored}
 use Rattle.writer.specs.Items.{Puts}
 use borrow.Author.Needs.{needs}
 use native.Mathlib.Omega.{arith}

@@ -4,9 +4,8 @@ use Prim.Native.Nat.{ℕ, _+_, _-_, _≤_}
 use mathlib.Core.Path.{_≡_}
 use mathlib.Core.List.{List}
 use lib.ListN.{length, take, drop}
-use Rattle.wire.specs.Writing.{putBytes, stored}
-use Rattle.wire.specs.Placed.{writtenAt}
-use Rattle.wire.specs.declared.Written.{Written}
+use Rattle.field_writer.specs.Writing.{putBytes, stored, writtenAt}
+use Rattle.field_writer.specs.declared.Written.{Written}
 use Rattle.decoder.specs.Fields.{partOf}
 use Rattle.writer.specs.Items.{Puts, placeOf}
 use borrow.Author.Needs.{needs}

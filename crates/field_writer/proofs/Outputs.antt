@@ -1,0 +1,48 @@
+-- What is stored in an output: one thing behind another is both at once, and whether there is room.
+use Prim.Native.Nat.{ℕ, suc, _+_, _≤_, _<_}
+use mathlib.Core.Path.{_≡_, refl, sym, _∙_}
+use mathlib.Core.Bool.{Bool, true, false, cond}
+use mathlib.Core.List.{List, [], _∷_, _++_}
+use lib.ListN.{length, take, drop, length-append}
+use lib.Dec.{leb}
+use lib.Seq.{sets, sets-eq, length-sets}
+use native.Mathlib.Omega.{arith}
+use borrow.Author.Tests.{le-leb, lt-leb, leb-true}
+use Rattle.field_writer.specs.Writing.{stored, writtenAt}
+use Rattle.field_writer.specs.declared.Written.the-variants.{Next, Full}
+
+-- byte by byte
+pub stored-sets : (out : List ℕ) (at : ℕ) (x : List ℕ) → at + length x ≤ length out → stored out at x ≡ sets out at x
+unfolding stored
+stored-sets out at x h = rw (le-leb (at + length x) (length out) h) (sym (sets-eq x out at h))
+
+pub length-stored : (out : List ℕ) (at : ℕ) (x : List ℕ) → length (stored out at x) ≡ length out
+unfolding stored
+length-stored out at x = by (leb (at + length x) (length out)) refl
+  where
+    by : (b : Bool) → leb (at + length x) (length out) ≡ b
+        → length (cond b (take at out ++ x ++ drop (at + length x) out) out) ≡ length out
+    by true e = rw (sym (sets-eq x out at (leb-true (at + length x) (length out) e))) (length-sets out at x)
+    by false e = refl
+
+sets-then : (out : List ℕ) (at next : ℕ) (x y : List ℕ) → next ≡ at + length x → sets (sets out at x) next y ≡ sets out at (x ++ y)
+sets-then out at next [] y e = let z : next ≡ at = omega arith in rw z
+sets-then out at next (b ∷ x) y e = sets-then _ (suc at) next x y (omega arith)
+
+pub stored-then : (out : List ℕ) (at : ℕ) (x y : List ℕ) → at + length x + length y ≤ length out
+    → stored (stored out at x) (at + length x) y ≡ stored out at (x ++ y)
+stored-then out at x y h =
+    let first : at + length x ≤ length out = omega arith in
+    let all : at + length (x ++ y) ≤ length out = omega (arith, length-append x y) in
+    stored-sets (stored out at x) (at + length x) y (omega (arith, length-stored out at x))
+    ∙ rw (stored-sets out at x first, stored-sets out at (x ++ y) all) (sets-then out at (at + length x) x y refl)
+
+-- there is room, or not
+module _ (out : List ℕ) (at : ℕ) (x : List ℕ) where
+  pub written : at + length x ≤ length out → (next : ℕ) → next ≡ at + length x → Next next ≡ writtenAt out at x
+  unfolding writtenAt
+  written h next e = rw (le-leb (at + length x) (length out) h, e)
+
+  pub full : length out < at + length x → (Full ≡ writtenAt out at x) × (out ≡ stored out at x)
+  unfolding writtenAt stored
+  full h = (rw (lt-leb (at + length x) (length out) h), rw (lt-leb (at + length x) (length out) h))

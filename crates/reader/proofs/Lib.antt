@@ -1,0 +1,2 @@
+-- Demand 3 whole
+pub mod FaithfulReading

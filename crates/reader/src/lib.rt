@@ -1,0 +1,37 @@
+// The reader of a frame: its record, and its parts as subslices of the caller's frame.
+mod parts;
+
+use message::Kind;
+use message::Record;
+use message::read_spans;
+use parts::attachment_of;
+use parts::body_of;
+use parts::header_of;
+ghost use mathlib.Core.Path.{_≡_};
+ghost use Rattle.message.specs.Frames.{readFrame};
+
+// What a frame reads as: the record or the error code, and the parts of the caller's frame, which are empty where it is
+// refused.
+pub struct Reading<'a> {
+    pub record: Record,
+    pub header: &'a [u8],
+    pub body: &'a [u8],
+    pub attachment: &'a [u8],
+}
+
+// Reads a frame as the kind that the caller expects. The map rows go to the first 256 of the lent numbers, four to a row.
+pub fn read<'a, 'b>(kind: Kind, frame: &'a [u8], rows: &'b mut [u32]) -> Reading<'a>
+    ensures { λ r. ⌜ (r .«record» ≡ readFrame kind (now (frame .entry)) (now (rows .entry)) .answer)
+        × (now (r .header) ≡ readFrame kind (now (frame .entry)) (now (rows .entry)) .header)
+        × (now (r .body) ≡ readFrame kind (now (frame .entry)) (now (rows .entry)) .body)
+        × (now (r .attachment) ≡ readFrame kind (now (frame .entry)) (now (rows .entry)) .attachment)
+        × (now (rows .exit) ≡ readFrame kind (now (frame .entry)) (now (rows .entry)) .rows) ⌝ }
+{
+    let located = read_spans(kind, frame, rows);
+    Reading {
+        record: located.record,
+        header: header_of(frame, located),
+        body: body_of(frame, located),
+        attachment: attachment_of(frame, located),
+    }
+}

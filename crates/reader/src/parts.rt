@@ -1,0 +1,42 @@
+// The parts of a frame as bytes, by their spans.
+use message::Located;
+use message::Span;
+ghost use mathlib.Core.Path.{_≡_};
+ghost use Rattle.message.specs.Spans.{bytesAt};
+
+// The bytes of the frame that a span names, as far as they exist.
+fn bytes_at(frame: &[u8], span: Span) -> &[u8]
+    ensures { λ r. ⌜ now r ≡ bytesAt (now (frame .entry)) span ⌝ }
+{
+    let start = span.start as usize;
+    let end = start + span.len as usize;
+    let size = frame.len();
+    if size <= start {
+        return &frame[0..0];
+    }
+    if size < end {
+        return &frame[start..];
+    }
+    &frame[start..end]
+}
+
+// The header of a frame whose parts were located.
+pub(crate) fn header_of(frame: &[u8], located: Located) -> &[u8]
+    ensures { λ r. ⌜ now r ≡ bytesAt (now (frame .entry)) (located .header) ⌝ }
+{
+    bytes_at(frame, located.header)
+}
+
+// Its body.
+pub(crate) fn body_of(frame: &[u8], located: Located) -> &[u8]
+    ensures { λ r. ⌜ now r ≡ bytesAt (now (frame .entry)) (located .body) ⌝ }
+{
+    bytes_at(frame, located.body)
+}
+
+// Its attachment.
+pub(crate) fn attachment_of(frame: &[u8], located: Located) -> &[u8]
+    ensures { λ r. ⌜ now r ≡ bytesAt (now (frame .entry)) (located .attachment) ⌝ }
+{
+    bytes_at(frame, located.attachment)
+}
