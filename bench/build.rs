@@ -1,12 +1,11 @@
-//! Links the archives of the C interface, from BEKURAPI_LIB_DIR, and those peers whose archives stand in BENCH_PEERS.
-//! `bench/run` builds both and sets the two.
+//! Links those peers whose archives stand in BENCH_PEERS, which `bench/run` builds.
 
 use std::env;
 use std::path::{Path, PathBuf};
 
-fn folder(variable: &str) -> PathBuf {
-    println!("cargo:rerun-if-env-changed={variable}");
-    let folder = env::var_os(variable).unwrap_or_else(|| panic!("{variable} is not set: start bench/run"));
+fn peers() -> PathBuf {
+    println!("cargo:rerun-if-env-changed=BENCH_PEERS");
+    let folder = env::var_os("BENCH_PEERS").expect("BENCH_PEERS is not set: start bench/run");
     println!("cargo:rustc-link-search=native={}", folder.to_str().unwrap());
     folder.into()
 }
@@ -22,11 +21,7 @@ fn link(folder: &Path, name: &str) -> bool {
 }
 
 fn main() {
-    let library = folder("BEKURAPI_LIB_DIR");
-    for name in ["bekurapi", "queue_in_place"] {
-        link(&library, name);
-    }
-    let peers = folder("BENCH_PEERS");
+    let peers = peers();
     if link(&peers, "protobuf_peer") {
         println!("cargo:rustc-cfg=protobuf");
         println!("cargo:rustc-link-lib=protobuf");

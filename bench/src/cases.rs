@@ -170,9 +170,8 @@ fn writing<M: Found + 'static>(name: &str, inputs: Rc<Vec<Input<M>>>) -> Case {
     let plain = |_, i: &Input<M>, out: &mut [u8]| {
         writer::write(&i.record, &i.source, &i.rows, &i.body, out).expect("a record that can be written")
     };
-    let case = Case::new(WRITING, name, VARIANTS)
-        .with(OURS, to_buffer(&inputs, ours))
-        .with(RUST, to_buffer(&inputs, plain));
+    let case =
+        Case::new(WRITING, name, VARIANTS).with(OURS, to_buffer(&inputs, ours)).with(RUST, to_buffer(&inputs, plain));
     writing_peers::<M>(case, &inputs)
 }
 
@@ -205,9 +204,8 @@ fn writing_peers<M: Found + 'static>(mut case: Case, inputs: &Rc<Vec<Input<M>>>)
             message
         };
         let messages: Vec<_> = inputs.iter().map(filled).collect();
-        let reused = move |index: usize, i: &Input<M>, out: &mut [u8]| {
-            nanopb::write(messages[index], i.record.id, &i.body, out)
-        };
+        let reused =
+            move |index: usize, i: &Input<M>, out: &mut [u8]| nanopb::write(messages[index], i.record.id, &i.body, out);
         case = case.with(NANOPB, to_buffer(inputs, reused));
     }
     case

@@ -62,7 +62,8 @@ impl Source {
         numbers[FIELDS..FIELDS + fields.len()].copy_from_slice(&fields);
         let body = self.random.bytes(body);
         let mut frame = vec![0; LARGEST];
-        let size = writer::write(&record, &self.bytes, &self.rows, &body, &mut frame).expect("a record that can be written");
+        let size =
+            writer::write(&record, &self.bytes, &self.rows, &body, &mut frame).expect("a record that can be written");
         frame.truncate(size);
         Input { record, numbers, source: self.bytes, rows: self.rows, body, frame }
     }

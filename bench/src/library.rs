@@ -3,6 +3,7 @@
 use crate::plain::deframer::{State, Step};
 use crate::plain::queue::{Job, Queue};
 use crate::plain::Error;
+use bekurapi_sys as ffi;
 
 /// How many numbers a record has.
 pub const RECORD_NUMBERS: usize = 24;
@@ -11,59 +12,19 @@ pub const RECORD_NUMBERS: usize = 24;
 pub const PARTS: usize = 2;
 pub const FIELDS: usize = 8;
 
-extern "C" {
-    fn trpc_header_check(bytes: *const u8, len: usize) -> u32;
-    fn trpc_deframe(
-        held: *mut usize,
-        error: *mut u32,
-        buffer: *mut u8,
-        buffer_len: usize,
-        piece: *const u8,
-        piece_len: usize,
-        taken: *mut usize,
-        size: *mut usize,
-    ) -> u32;
-    fn trpc_read(
-        kind: u32,
-        frame: *const u8,
-        frame_len: usize,
-        rows: *mut u32,
-        rows_len: usize,
-        record: *mut u32,
-        record_len: usize,
-    ) -> u32;
-    fn trpc_write(
-        kind: u32,
-        record: *const u32,
-        record_len: usize,
-        source: *const u8,
-        source_len: usize,
-        rows: *const u32,
-        rows_len: usize,
-        body: *const u8,
-        body_len: usize,
-        out: *mut u8,
-        out_len: usize,
-        size: *mut usize,
-    ) -> u32;
-    fn trpc_queue_add(queue: *mut Queue, connection: u32, request: u32, timeout: u32, arrival: u64) -> u32;
-    fn trpc_queue_take(queue: *mut Queue, removed: *mut Job) -> u32;
-    fn trpc_queue_cancel(queue: *mut Queue, connection: u32, request: u32, removed: *mut Job) -> u32;
-}
-
 // SAFETY, for every call below: each pointer is that of a slice or reference that lives through the call, with the slice's
-// length beside it, and the library keeps none of them.
+// length beside it, and the library keeps none of them. Plain Rust's jobs and queues are laid out as C's are.
 
 #[inline]
 pub fn header_check(bytes: &[u8]) -> Error {
-    unsafe { trpc_header_check(bytes.as_ptr(), bytes.len()) }
+    unsafe { ffi::trpc_header_check(bytes.as_ptr(), bytes.len()) }
 }
 
 #[inline]
 pub fn deframe(state: &mut State, buffer: &mut [u8], piece: &[u8]) -> Step {
     let (mut taken, mut size) = (0, 0);
     let error = unsafe {
-        trpc_deframe(
+        ffi::trpc_deframe(
             &mut state.held,
             &mut state.error,
             buffer.as_mut_ptr(),
@@ -80,15 +41,30 @@ pub fn deframe(state: &mut State, buffer: &mut [u8], piece: &[u8]) -> Step {
 #[inline]
 pub fn read(kind: u32, frame: &[u8], rows: &mut [u32], record: &mut [u32]) -> Error {
     unsafe {
-        trpc_read(kind, frame.as_ptr(), frame.len(), rows.as_mut_ptr(), rows.len(), record.as_mut_ptr(), record.len())
+        ffi::trpc_read(
+            kind,
+            frame.as_ptr(),
+            frame.len(),
+            rows.as_mut_ptr(),
+            rows.len(),
+            record.as_mut_ptr(),
+            record.len(),
+        )
     }
 }
 
 #[inline]
-pub fn write(kind: u32, record: &[u32], source: &[u8], rows: &[u32], body: &[u8], out: &mut [u8]) -> Result<usize, Error> {
+pub fn write(
+    kind: u32,
+    record: &[u32],
+    source: &[u8],
+    rows: &[u32],
+    body: &[u8],
+    out: &mut [u8],
+) -> Result<usize, Error> {
     let mut size = 0;
     let error = unsafe {
-        trpc_write(
+        ffi::trpc_write(
             kind,
             record.as_ptr(),
             record.len(),
@@ -110,9 +86,16 @@ pub fn write(kind: u32, record: &[u32], source: &[u8], rows: &[u32], body: &[u8]
     }
 }
 
+/// A job or a queue of plain Rust's as the interface's struct of the same layout.
+#[inline]
+fn lent<T, U>(value: &mut T) -> *mut U {
+    const { assert!(size_of::<T>() == size_of::<U>() && align_of::<T>() == align_of::<U>()) };
+    std::ptr::from_mut(value).cast()
+}
+
 #[inline]
 pub fn queue_add(queue: &mut Queue, job: Job) -> Result<(), Error> {
-    match unsafe { trpc_queue_add(queue, job.connection, job.request, job.timeout, job.arrival) } {
+    match unsafe { ffi::trpc_queue_add(lent(queue), job.connection, job.request, job.timeout, job.arrival) } {
         0 => Ok(()),
         error => Err(error),
     }
@@ -121,7 +104,7 @@ pub fn queue_add(queue: &mut Queue, job: Job) -> Result<(), Error> {
 #[inline]
 pub fn queue_take(queue: &mut Queue) -> Result<Job, Error> {
     let mut job = Job::default();
-    match unsafe { trpc_queue_take(queue, &mut job) } {
+    match unsafe { ffi::trpc_queue_take(lent(queue), lent(&mut job)) } {
         0 => Ok(job),
         error => Err(error),
     }
@@ -130,7 +113,7 @@ pub fn queue_take(queue: &mut Queue) -> Result<Job, Error> {
 #[inline]
 pub fn queue_cancel(queue: &mut Queue, connection: u32, request: u32) -> Result<Job, Error> {
     let mut job = Job::default();
-    match unsafe { trpc_queue_cancel(queue, connection, request, &mut job) } {
+    match unsafe { ffi::trpc_queue_cancel(lent(queue), connection, request, lent(&mut job)) } {
         0 => Ok(job),
         error => Err(error),
     }

@@ -57,12 +57,21 @@ pub mod protobuf {
 
     #[inline]
     pub fn write(message: Message, id: u32, body: &[u8], out: &mut [u8]) -> usize {
-        unsafe { protobuf_write(message.kind, message.object, id, body.as_ptr(), body.len(), out.as_mut_ptr(), out.len()) }
+        unsafe {
+            protobuf_write(message.kind, message.object, id, body.as_ptr(), body.len(), out.as_mut_ptr(), out.len())
+        }
     }
 
     /// The record's places lie in the source, and its rows are there.
     #[inline]
-    pub fn write_fresh(kind: u32, record: &[u32; 24], source: &[u8], rows: &[u32], body: &[u8], out: &mut [u8]) -> usize {
+    pub fn write_fresh(
+        kind: u32,
+        record: &[u32; 24],
+        source: &[u8],
+        rows: &[u32],
+        body: &[u8],
+        out: &mut [u8],
+    ) -> usize {
         assert!(rows.len() >= 4 * record[1] as usize);
         unsafe {
             protobuf_write_fresh(
@@ -109,6 +118,8 @@ pub mod nanopb {
 
     #[inline]
     pub fn write(message: Message, id: u32, body: &[u8], out: &mut [u8]) -> usize {
-        unsafe { nanopb_write(message.kind, message.object, id, body.as_ptr(), body.len(), out.as_mut_ptr(), out.len()) }
+        unsafe {
+            nanopb_write(message.kind, message.object, id, body.as_ptr(), body.len(), out.as_mut_ptr(), out.len())
+        }
     }
 }

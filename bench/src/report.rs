@@ -180,7 +180,8 @@ fn draw_bar(out: &mut String, axis: &Axis, y: f64, peer: &str, ratio: f64) {
     let (start, width) = (one.min(end), (one - end).abs().max(1.0));
     let (color, height) = (color(peer), BAR - 4.0);
     let top = y + 2.0;
-    writeln!(out, r#"<rect x="{start:.1}" y="{top:.1}" width="{width:.1}" height="{height}" fill="{color}"/>"#).unwrap();
+    writeln!(out, r#"<rect x="{start:.1}" y="{top:.1}" width="{width:.1}" height="{height}" fill="{color}"/>"#)
+        .unwrap();
     let base = y + BAR - 4.0;
     text(out, LEFT - 8.0, base, "end", "", peer);
     let (at, anchor) = if ratio < 1.0 { (end - 4.0, "end") } else { (end + 4.0, "start") };

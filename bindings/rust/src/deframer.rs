@@ -1,8 +1,8 @@
 use std::fmt;
 
 use crate::error::{checked, Error};
-use crate::ffi;
 use crate::header::MAX_FRAME;
+use bekurapi_sys as ffi;
 
 /// Cuts a stream that arrives in pieces into frames. It owns the buffer of 65,536 bytes in which frames are put together.
 ///

@@ -1,5 +1,5 @@
 use crate::error::{checked, Error};
-use crate::ffi;
+use bekurapi_sys as ffi;
 
 /// How many bytes a fixed header has.
 ///

@@ -35,7 +35,6 @@
 
 mod deframer;
 mod error;
-mod ffi;
 mod header;
 mod numbers;
 mod queue;

@@ -1,7 +1,7 @@
 use std::fmt;
 
 use crate::error::{checked, Error};
-use crate::ffi;
+use bekurapi_sys as ffi;
 
 /// How many jobs wait in a [`Queue`] at most.
 ///
@@ -27,24 +27,13 @@ pub const CAPACITY: usize = 64;
 /// ```
 pub const LATEST_ARRIVAL: u64 = 1 << 62;
 
-/// A job, named by its pair of connection number and request id.
+/// A job, named by its pair of connection number and request id, [`Message::id`](crate::Message::id).
 ///
 /// ```
 /// let job = bekurapi::Job { connection: 1, request: 7, timeout: 600_000, arrival: 0 };
 /// assert_eq!(job.timeout, 600_000);
 /// ```
-#[repr(C)]
-#[derive(Clone, Copy, Debug, Default, PartialEq, Eq, Hash)]
-pub struct Job {
-    /// The connection that the request came on.
-    pub connection: u32,
-    /// The request id of the frame's fixed header: [`Message::id`](crate::Message::id).
-    pub request: u32,
-    /// In ms; 0 is no deadline.
-    pub timeout: u32,
-    /// In ms; at most [`LATEST_ARRIVAL`].
-    pub arrival: u64,
-}
+pub use bekurapi_sys::Job;
 
 /// Up to 64 waiting jobs. The one whose arrival plus timeout is the least is taken first, of several such the one that was
 /// accepted first; one with no deadline comes after all that have one.
@@ -61,15 +50,8 @@ pub struct Job {
 /// assert_eq!(queue.take()?.request, 1);
 /// # Ok::<(), bekurapi::Error>(())
 /// ```
-#[repr(C)]
 #[derive(Clone)]
-pub struct Queue {
-    jobs: [Job; CAPACITY],
-    count: usize,
-}
-
-// As C lays out struct trpc_job and struct trpc_queue.
-const _: () = assert!(std::mem::size_of::<Job>() == 24 && std::mem::size_of::<Queue>() == CAPACITY * 24 + 8);
+pub struct Queue(ffi::Queue);
 
 impl Queue {
     /// A queue in which nothing waits.
@@ -78,10 +60,10 @@ impl Queue {
     /// assert!(bekurapi::Queue::new().jobs().is_empty());
     /// ```
     pub fn new() -> Queue {
-        let mut queue = Queue { jobs: [Job::default(); CAPACITY], count: 0 };
-        // SAFETY: the queue is a local of the layout that the function writes.
+        let mut queue = ffi::Queue { jobs: [Job::default(); CAPACITY], count: 0 };
+        // SAFETY: the queue is a local.
         unsafe { ffi::trpc_queue_init(&mut queue) };
-        queue
+        Queue(queue)
     }
 
     /// Puts a job behind those that wait.
@@ -98,8 +80,8 @@ impl Queue {
     /// assert_eq!(queue.add(job), Err(Error::Duplicate));
     /// ```
     pub fn add(&mut self, job: Job) -> Result<(), Error> {
-        // SAFETY: the queue is borrowed exclusively and has the layout that the function reads and writes.
-        checked(unsafe { ffi::trpc_queue_add(self, job.connection, job.request, job.timeout, job.arrival) })
+        // SAFETY: the queue is borrowed exclusively.
+        checked(unsafe { ffi::trpc_queue_add(&mut self.0, job.connection, job.request, job.timeout, job.arrival) })
     }
 
     /// Removes the job that is due first. The error is [`Error::QueueEmpty`].
@@ -116,9 +98,8 @@ impl Queue {
     /// ```
     pub fn take(&mut self) -> Result<Job, Error> {
         let mut removed = Job::default();
-        // SAFETY: the queue is borrowed exclusively, `removed` is a local outside it, and both have the layout that the
-        // function reads and writes.
-        checked(unsafe { ffi::trpc_queue_take(self, &mut removed) })?;
+        // SAFETY: the queue is borrowed exclusively, and `removed` is a local outside it.
+        checked(unsafe { ffi::trpc_queue_take(&mut self.0, &mut removed) })?;
         Ok(removed)
     }
 
@@ -136,7 +117,7 @@ impl Queue {
     pub fn cancel(&mut self, connection: u32, request: u32) -> Result<Job, Error> {
         let mut removed = Job::default();
         // SAFETY: as in `take`.
-        checked(unsafe { ffi::trpc_queue_cancel(self, connection, request, &mut removed) })?;
+        checked(unsafe { ffi::trpc_queue_cancel(&mut self.0, connection, request, &mut removed) })?;
         Ok(removed)
     }
 
@@ -151,7 +132,7 @@ impl Queue {
     /// assert_eq!(queue.jobs(), [job]);
     /// ```
     pub fn jobs(&self) -> &[Job] {
-        &self.jobs[..self.count]
+        &self.0.jobs[..self.0.count]
     }
 }
 

@@ -1,7 +1,7 @@
 use crate::error::{checked, Error};
-use crate::ffi;
 use crate::numbers::{Numbers, RECORD_NUMBERS, ROW_NUMBERS};
 use crate::record::{Kind, Record};
+use bekurapi_sys as ffi;
 
 /// A frame that was read. All bytes are parts of the frame, so a message is kept by keeping its frame.
 ///

@@ -1,8 +1,8 @@
 use crate::error::{checked, Error};
-use crate::ffi;
 use crate::header::{HEADER_SIZE, MAX_FRAME};
 use crate::numbers::Source;
 use crate::record::Record;
+use bekurapi_sys as ffi;
 
 /// Writes the frame of a record with its id and body to the start of `out`, and returns the frame's size. Bytes of `out` past
 /// the frame stay as they were, and after an error all of them do.

@@ -1,65 +1,20 @@
-//! The library under test, through its C interface (include/bekurapi.h): the declarations, and safe functions over them.
+//! The library under test, through its C interface (include/bekurapi.h): safe functions over its declarations.
 
 use crate::reference::deframer::State;
 use crate::reference::interface::{Deframed, Finished, Removed, Written};
 use crate::reference::queue::{Job, Queue};
 
-#[cfg(feature = "self")]
+#[cfg(not(feature = "library"))]
 use crate::stand_in as c;
-
-#[cfg(not(feature = "self"))]
-mod c {
-    use super::{Job, Queue};
-
-    extern "C" {
-        pub fn trpc_header_check(bytes: *const u8, len: usize) -> u32;
-        pub fn trpc_deframe(
-            held: *mut usize,
-            error: *mut u32,
-            buffer: *mut u8,
-            buffer_len: usize,
-            piece: *const u8,
-            piece_len: usize,
-            taken: *mut usize,
-            size: *mut usize,
-        ) -> u32;
-        pub fn trpc_finish(held: usize, error: u32, buffer: *const u8, buffer_len: usize, short_by: *mut usize) -> u32;
-        pub fn trpc_read(
-            kind: u32,
-            frame: *const u8,
-            frame_len: usize,
-            rows: *mut u32,
-            rows_len: usize,
-            record: *mut u32,
-            record_len: usize,
-        ) -> u32;
-        pub fn trpc_write(
-            kind: u32,
-            record: *const u32,
-            record_len: usize,
-            source: *const u8,
-            source_len: usize,
-            rows: *const u32,
-            rows_len: usize,
-            body: *const u8,
-            body_len: usize,
-            out: *mut u8,
-            out_len: usize,
-            size: *mut usize,
-        ) -> u32;
-        pub fn trpc_queue_init(queue: *mut Queue);
-        pub fn trpc_queue_add(queue: *mut Queue, connection: u32, request: u32, timeout: u32, arrival: u64) -> u32;
-        pub fn trpc_queue_take(queue: *mut Queue, removed: *mut Job) -> u32;
-        pub fn trpc_queue_cancel(queue: *mut Queue, connection: u32, request: u32, removed: *mut Job) -> u32;
-    }
-}
+#[cfg(feature = "library")]
+use bekurapi_sys as c;
 
 /// What stands where the library has to put an answer, so that one which it leaves out is seen.
 const NO_ANSWER: usize = 0x5555_5555_5555;
 const NO_JOB: Job = Job { connection: 1, request: 2, timeout: 3, arrival: 4 };
 
 // SAFETY, for every function below: each pointer is that of a slice or reference that lives through the call, with the slice's
-// length beside it, and the library keeps none of them.
+// length beside it, and the library keeps none of them. The reference's jobs and queues are laid out as C's are.
 
 pub fn header_check(bytes: &[u8]) -> u32 {
     unsafe { c::trpc_header_check(bytes.as_ptr(), bytes.len()) }
@@ -116,22 +71,28 @@ pub fn write(kind: u32, record: &[u32], source: &[u8], rows: &[u32], body: &[u8]
     Written { error, size }
 }
 
+/// A value of the reference as the interface's struct of the same layout.
+fn lent<T, U>(value: &mut T) -> *mut U {
+    const { assert!(size_of::<T>() == size_of::<U>() && align_of::<T>() == align_of::<U>()) };
+    std::ptr::from_mut(value).cast()
+}
+
 pub fn queue_init(queue: &mut Queue) {
-    unsafe { c::trpc_queue_init(queue) }
+    unsafe { c::trpc_queue_init(lent(queue)) }
 }
 
 pub fn queue_add(queue: &mut Queue, job: Job) -> u32 {
-    unsafe { c::trpc_queue_add(queue, job.connection, job.request, job.timeout, job.arrival) }
+    unsafe { c::trpc_queue_add(lent(queue), job.connection, job.request, job.timeout, job.arrival) }
 }
 
 pub fn queue_take(queue: &mut Queue) -> Removed {
     let mut job = NO_JOB;
-    let error = unsafe { c::trpc_queue_take(queue, &mut job) };
+    let error = unsafe { c::trpc_queue_take(lent(queue), lent(&mut job)) };
     Removed { error, job }
 }
 
 pub fn queue_cancel(queue: &mut Queue, connection: u32, request: u32) -> Removed {
     let mut job = NO_JOB;
-    let error = unsafe { c::trpc_queue_cancel(queue, connection, request, &mut job) };
+    let error = unsafe { c::trpc_queue_cancel(lent(queue), connection, request, lent(&mut job)) };
     Removed { error, job }
 }

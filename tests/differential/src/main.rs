@@ -15,7 +15,7 @@ mod random;
 mod reference;
 mod run;
 mod shrink;
-#[cfg(feature = "self")]
+#[cfg(not(feature = "library"))]
 mod stand_in;
 
 use run::{Family, Tally};
@@ -34,7 +34,7 @@ struct Arguments {
 
 fn usage() -> ! {
     eprintln!("usage: differential [--inputs N] [--long] [--seed N] [--family NAME]");
-    #[cfg(feature = "self")]
+    #[cfg(not(feature = "library"))]
     eprintln!("       [--fault NAME], one of {}", stand_in::FAULTS.join(", "));
     exit(2);
 }
@@ -60,7 +60,7 @@ fn arguments() -> Arguments {
                 let name = words.next().filter(|name| families::ALL.iter().any(|family| family.0 == name));
                 arguments.family = Some(name.unwrap_or_else(|| usage()));
             }
-            #[cfg(feature = "self")]
+            #[cfg(not(feature = "library"))]
             "--fault" => {
                 let name = words.next().filter(|name| stand_in::FAULTS.contains(&name.as_str()));
                 stand_in::FAULT.set(name.unwrap_or_else(|| usage())).unwrap();

@@ -1,4 +1,4 @@
-//! With the feature `self`: the reference behind the library's own signatures, and faults that can be put into it
+//! Without the feature `library`: the reference behind the library's own signatures, and faults that can be put into it
 //! (`--fault NAME`), to see that each is found and how small the shrinker makes its input.
 
 use crate::reference::deframer::State;
