@@ -112,17 +112,35 @@ static void print_request(const struct trpc_request *request, const uint8_t *fra
     printf("\"\n");
 }
 
+/* The words for enum trpc_frame_type. */
+static const char *const type_names[] = {"unary", "init", "data", "feedback", "close"};
+
+/* Whether a frame may be a request; tells of one that is not. The deframer has found its header good. */
+static int is_unary(const uint8_t *frame)
+{
+    uint32_t type, id;
+    size_t total, header_size;
+
+    trpc_header_parse(frame, TRPC_HEADER_SIZE, &type, &total, &header_size, &id);
+    printf("frame of %zu bytes: ", total);
+    if (type != TRPC_FRAME_UNARY)
+        printf("%s of stream %" PRIu32 ", no request\n", type_names[type], id);
+    return type == TRPC_FRAME_UNARY;
+}
+
 /* Reads a frame as a request and queues a job for it. */
 static void accept_frame(struct trpc_queue *queue, const uint8_t *frame, size_t size, uint64_t now)
 {
     struct trpc_request request;
     struct trpc_row rows[TRPC_ROW_NUMBERS / 4];
-    uint32_t error = trpc_read(TRPC_REQUEST, frame, size, (uint32_t *)rows, TRPC_ROW_NUMBERS, (uint32_t *)&request,
-                               TRPC_RECORD_NUMBERS);
+    uint32_t error;
 
-    printf("frame of %zu bytes: ", size);
+    if (!is_unary(frame))
+        return;
+    error = trpc_read(TRPC_REQUEST, frame, size, (uint32_t *)rows, TRPC_ROW_NUMBERS, (uint32_t *)&request,
+                      TRPC_RECORD_NUMBERS);
     if (error != 0) {
-        printf("no request, error %" PRIu32 "\n", error);
+        printf("bad, error %" PRIu32 "\n", error);
         return;
     }
     print_request(&request, frame, rows);

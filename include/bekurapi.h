@@ -61,6 +61,37 @@ enum trpc_header_error {
  */
 uint32_t trpc_header_check(const uint8_t *bytes, size_t len);
 
+/*
+ * What a fixed header says a frame is. The numbers are those of the stream type. A unary frame does not say whether it is a
+ * request or a response.
+ */
+enum trpc_frame_type {
+    TRPC_FRAME_UNARY = 0,
+    TRPC_FRAME_INIT = 1,
+    TRPC_FRAME_DATA = 2,
+    TRPC_FRAME_FEEDBACK = 3,
+    TRPC_FRAME_CLOSE = 4
+};
+
+/*
+ * Reads a fixed header: for a caller that has a frame and is to choose the kind to read it as.
+ *
+ * bytes        the header, as for trpc_header_check: the first 16 bytes of a frame. None of them is changed.
+ * frame_type   receives one of enum trpc_frame_type.
+ * total        receives the frame's size, its fixed header included.
+ * header_size  receives the size of a unary frame's header message; 0 for a stream frame.
+ * id           receives the request id or stream id.
+ *
+ * Returns 0 for a good header, else the code that trpc_header_check returns. After a refusal all four are 0.
+ *
+ *     code = trpc_header_parse(frame, TRPC_HEADER_SIZE, &frame_type, &total, &header_size, &id);
+ *     if (code == 0 && frame_type == TRPC_FRAME_FEEDBACK) {
+ *         // a Feedback frame of the stream id: trpc_read(TRPC_FEEDBACK, frame, total, ..)
+ *     }
+ */
+uint32_t trpc_header_parse(const uint8_t *bytes, size_t len, uint32_t *frame_type, size_t *total, size_t *header_size,
+                           uint32_t *id);
+
 /* ---- Cutting a stream into frames ---- */
 
 /* The largest frame, its fixed header included, and so the least size of a deframer's buffer. */

@@ -1,6 +1,7 @@
 /*
- * trpc_header_check, as a C program calls it, against a check that is written here on its own: the headers of document 01's
- * examples with the codes that it gives, every value of every byte of several headers, and every length from 0 to 40.
+ * trpc_header_check and trpc_header_parse, as a C program calls them, against a check that is written here on its own: the headers
+ * of document 01's examples with the codes that it gives, every value of every byte of several headers, and every length from 0 to
+ * 40.
  */
 #include <stdio.h>
 #include <stdlib.h>
@@ -10,6 +11,11 @@
 
 static unsigned long checks;
 
+static uint32_t be32(const uint8_t *bytes)
+{
+    return (uint32_t)bytes[0] << 24 | (uint32_t)bytes[1] << 16 | (uint32_t)bytes[2] << 8 | bytes[3];
+}
+
 /* Document 01, "The 16 bytes" and "Refusal numbers", as one condition after another. */
 static uint32_t expected(const uint8_t *h, size_t len)
 {
@@ -17,7 +23,7 @@ static uint32_t expected(const uint8_t *h, size_t len)
         return 9;
 
     uint32_t magic = (uint32_t)h[0] << 8 | h[1];
-    uint32_t total = (uint32_t)h[4] << 24 | (uint32_t)h[5] << 16 | (uint32_t)h[6] << 8 | h[7];
+    uint32_t total = be32(h + 4);
     uint32_t header_size = (uint32_t)h[8] << 8 | h[9];
     uint32_t reserved = (uint32_t)h[14] << 8 | h[15];
     int unary = h[2] == 0;
@@ -39,6 +45,21 @@ static void fail(const char *what, const uint8_t *bytes, size_t len, uint32_t wa
     exit(1);
 }
 
+/* What a good header says; all zero where it is refused. */
+static void check_parse(const uint8_t *bytes, size_t len, uint32_t want)
+{
+    uint32_t type = 99, id = 99;
+    size_t total = 99, header_size = 99;
+    uint32_t got = trpc_header_parse(bytes, len, &type, &total, &header_size, &id);
+    if (got != want)
+        fail("the code of the parser", bytes, len, want, got);
+    int right = want != 0 ? type == 0 && total == 0 && header_size == 0 && id == 0
+                          : type == (bytes[2] == 0 ? 0u : bytes[3]) && total == be32(bytes + 4) &&
+                                header_size == bytes[8] * 256u + bytes[9] && id == be32(bytes + 10);
+    if (!right)
+        fail("what the header says", bytes, len, want, got);
+}
+
 static void check(const char *what, const uint8_t *bytes, size_t len, uint32_t want)
 {
     uint8_t before[64];
@@ -46,6 +67,7 @@ static void check(const char *what, const uint8_t *bytes, size_t len, uint32_t w
     uint32_t got = trpc_header_check(bytes, len);
     if (got != want)
         fail(what, bytes, len, want, got);
+    check_parse(bytes, len, want);
     if (memcmp(before, bytes, len) != 0)
         fail("the bytes were changed", bytes, len, want, got);
     checks++;

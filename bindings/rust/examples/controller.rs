@@ -5,7 +5,8 @@
 //!     cargo run --example controller
 
 use bekurapi::{
-    read, to_vec, Deframer, End, Error, Feedback, Job, Kind, Message, Queue, Record, Request, Response, TransInfo,
+    parse_header, read, to_vec, Deframer, End, Error, Feedback, FrameType, Job, Kind, Message, Queue, Record, Request,
+    Response, TransInfo, HEADER_SIZE,
 };
 
 /// The number of the connection that the stream comes on.
@@ -67,10 +68,14 @@ fn print_request(message: &Message, request: &Request) {
 
 /// Reads a frame as a request and queues a job for it.
 fn accept(queue: &mut Queue, frame: &[u8], now: u64) {
-    print!("frame of {} bytes: ", frame.len());
+    let header = parse_header(&frame[..HEADER_SIZE]).expect("the deframer has found it good");
+    print!("frame of {} bytes: ", header.total);
+    if header.frame_type != FrameType::Unary {
+        return println!("{} of stream {}, no request", header.frame_type, header.id);
+    }
     let message = match read(Kind::Request, frame) {
         Ok(message) => message,
-        Err(error) => return println!("no request, error {}", error.number()),
+        Err(error) => return println!("bad, error {}", error.number()),
     };
     let Record::Request(request) = &message.record else { unreachable!("read as a request") };
     print_request(&message, request);

@@ -1,4 +1,7 @@
+use std::fmt;
+
 use crate::error::{checked, Error};
+use crate::record::Kind;
 use bekurapi_sys as ffi;
 
 /// How many bytes a fixed header has.
@@ -38,4 +41,116 @@ pub const MAX_FRAME: usize = 65_536;
 pub fn header_check(bytes: &[u8]) -> Result<(), Error> {
     // SAFETY: the pointer and the length are those of a slice, which the function only reads.
     checked(unsafe { ffi::trpc_header_check(bytes.as_ptr(), bytes.len()) })
+}
+
+/// What a fixed header says a frame is.
+///
+/// ```
+/// use bekurapi::{FrameType, Kind};
+///
+/// assert_eq!(FrameType::Feedback.kind(), Some(Kind::Feedback));
+/// assert_eq!(FrameType::Unary.to_string(), "unary");
+/// ```
+#[derive(Clone, Copy, Debug, PartialEq, Eq, Hash)]
+pub enum FrameType {
+    /// A request or a response: the frame does not say which.
+    Unary,
+    /// The first frame of a stream.
+    Init,
+    /// A body.
+    Data,
+    /// A window update.
+    Feedback,
+    /// The end of a stream, or of one direction of it.
+    Close,
+}
+
+impl FrameType {
+    /// The type of the C interface's number.
+    fn from_number(number: u32) -> FrameType {
+        match number {
+            0 => FrameType::Unary,
+            1 => FrameType::Init,
+            2 => FrameType::Data,
+            3 => FrameType::Feedback,
+            4 => FrameType::Close,
+            _ => unreachable!("the library has five frame types"),
+        }
+    }
+
+    /// The kind to read such a frame as; nothing for a unary frame, of which the caller knows whether it is a request or a
+    /// response.
+    ///
+    /// ```
+    /// use bekurapi::FrameType;
+    ///
+    /// assert_eq!(FrameType::Unary.kind(), None);
+    /// ```
+    pub fn kind(self) -> Option<Kind> {
+        match self {
+            FrameType::Unary => None,
+            FrameType::Init => Some(Kind::Init),
+            FrameType::Data => Some(Kind::Data),
+            FrameType::Feedback => Some(Kind::Feedback),
+            FrameType::Close => Some(Kind::Close),
+        }
+    }
+}
+
+/// The word of the program `listing`.
+impl fmt::Display for FrameType {
+    fn fmt(&self, f: &mut fmt::Formatter<'_>) -> fmt::Result {
+        f.pad(match self {
+            FrameType::Unary => "unary",
+            FrameType::Init => "init",
+            FrameType::Data => "data",
+            FrameType::Feedback => "feedback",
+            FrameType::Close => "close",
+        })
+    }
+}
+
+/// What a good fixed header says.
+///
+/// ```
+/// use bekurapi::{parse_header, FixedHeader, FrameType};
+///
+/// let header = parse_header(b"\x09\x30\x01\x03\0\0\0\x13\0\0\0\0\0\x05\0\0").unwrap();
+/// assert_eq!(header, FixedHeader { frame_type: FrameType::Feedback, total: 19, header_size: 0, id: 5 });
+/// ```
+#[derive(Clone, Copy, Debug, PartialEq, Eq, Hash)]
+pub struct FixedHeader {
+    /// Unary, or the type of a stream frame.
+    pub frame_type: FrameType,
+    /// The frame's size, its fixed header included.
+    pub total: usize,
+    /// The size of a unary frame's header message; 0 for a stream frame.
+    pub header_size: usize,
+    /// The request id or stream id: the one to answer with.
+    pub id: u32,
+}
+
+/// Reads a fixed header: exactly 16 bytes that begin a frame. It tells which kind to read a stream frame as.
+///
+/// The errors are those of [`header_check`].
+///
+/// ```
+/// use bekurapi::{parse_header, read, to_vec, Feedback, Kind, Record, HEADER_SIZE};
+///
+/// let frame = to_vec(5, &Record::Feedback(Feedback { window_size_increment: 300 }), b"")?;
+/// let header = parse_header(&frame[..HEADER_SIZE])?;
+/// assert_eq!(header.id, 5);
+/// let kind = header.frame_type.kind().unwrap_or(Kind::Request); // a client of ours sends no responses
+/// assert_eq!(read(kind, &frame)?.record, Record::Feedback(Feedback { window_size_increment: 300 }));
+/// # Ok::<(), bekurapi::Error>(())
+/// ```
+pub fn parse_header(bytes: &[u8]) -> Result<FixedHeader, Error> {
+    let (mut frame_type, mut total, mut header_size, mut id) = (0, 0, 0, 0);
+    // SAFETY: the pointer and the length are those of a slice, which the function only reads; the numbers are locals that it
+    // alone writes.
+    let code = unsafe {
+        ffi::trpc_header_parse(bytes.as_ptr(), bytes.len(), &mut frame_type, &mut total, &mut header_size, &mut id)
+    };
+    checked(code)?;
+    Ok(FixedHeader { frame_type: FrameType::from_number(frame_type), total, header_size, id })
 }

@@ -45,7 +45,7 @@ mod writer;
 
 pub use deframer::{Deframer, End, Progress};
 pub use error::Error;
-pub use header::{header_check, HEADER_SIZE, MAX_FRAME};
+pub use header::{header_check, parse_header, FixedHeader, FrameType, HEADER_SIZE, MAX_FRAME};
 pub use queue::{Job, Queue, CAPACITY, LATEST_ARRIVAL};
 pub use reader::{read, Message};
 pub use record::{Close, Feedback, Init, Kind, Record, Request, RequestMeta, Response, ResponseMeta};

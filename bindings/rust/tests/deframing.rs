@@ -1,6 +1,9 @@
 //! The deframer: every way to cut a short stream, damaged headers, the largest frame.
 
-use bekurapi::{header_check, to_vec, Deframer, End, Error, Feedback, Progress, Record, Request, MAX_FRAME};
+use bekurapi::{
+    header_check, parse_header, to_vec, Close, Deframer, End, Error, Feedback, FixedHeader, FrameType, Init, Progress,
+    Record, Request, Response, HEADER_SIZE, MAX_FRAME,
+};
 
 /// A Feedback frame of 19 bytes, a request of 16 and a Data frame of 20.
 fn frames() -> [Vec<u8>; 3] {
@@ -77,6 +80,7 @@ fn every_refused_header() {
         let mut bad = frames()[0].clone();
         bad[place] = value;
         assert_eq!(header_check(&bad[..16]), Err(error));
+        assert_eq!(parse_header(&bad[..16]), Err(error));
         let stream = [frames()[1].clone(), bad].concat();
         for size in 1..=stream.len() {
             assert_eq!(deframed(stream.chunks(size)), (vec![frames()[1].clone()], Err(error)));
@@ -114,5 +118,24 @@ fn header_lengths() {
     assert_eq!(header_check(header), Ok(()));
     for len in (0..16).chain(17..40) {
         assert_eq!(header_check(&vec![0x09; len]), Err(Error::LengthOrKind));
+        assert_eq!(parse_header(&vec![0x09; len]), Err(Error::LengthOrKind));
+    }
+}
+
+#[test]
+fn what_headers_say() {
+    let records = [
+        (Record::Request(Request { timeout: 5_000, ..Request::default() }), FrameType::Unary, 3),
+        (Record::Response(Response::default()), FrameType::Unary, 0),
+        (Record::Init(Init { content_type: 2, ..Init::default() }), FrameType::Init, 0),
+        (Record::Data, FrameType::Data, 0),
+        (Record::Feedback(Feedback { window_size_increment: 300 }), FrameType::Feedback, 0),
+        (Record::Close(Close::default()), FrameType::Close, 0),
+    ];
+    for (record, frame_type, header_size) in records {
+        let frame = to_vec(0xa1b2_c3d4, &record, b"").unwrap();
+        let header = FixedHeader { frame_type, total: frame.len(), header_size, id: 0xa1b2_c3d4 };
+        assert_eq!(parse_header(&frame[..HEADER_SIZE]), Ok(header));
+        assert!(frame_type.kind().is_none_or(|kind| kind == record.kind()));
     }
 }

@@ -32,6 +32,16 @@ extern "C" {
     /// Checks a fixed header.
     pub fn trpc_header_check(bytes: *const u8, len: usize) -> u32;
 
+    /// Reads a fixed header.
+    pub fn trpc_header_parse(
+        bytes: *const u8,
+        len: usize,
+        frame_type: *mut u32,
+        total: *mut usize,
+        header_size: *mut usize,
+        id: *mut u32,
+    ) -> u32;
+
     /// One call of the deframer.
     pub fn trpc_deframe(
         held: *mut usize,

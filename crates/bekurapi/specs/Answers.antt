@@ -1,8 +1,13 @@
--- The answers of the deframer, of the end of a stream and of the reader as numbers: "For an answer that is an enum, a definition gives this paper's number and values
+-- The answers about a fixed header, of the deframer, of the end of a stream and of the reader as numbers: "For an answer that is an enum, a definition gives this paper's number and values
 -- for each of its cases."
 use Prim.Native.Nat.{ℕ}
 use mathlib.Core.List.{List}
 use Rattle.frame.specs.Deframe.{Out, deframed}
+use Rattle.frame.specs.declared.FrameType.{FrameType}
+use Rattle.frame.specs.declared.FrameType.the-variants as types
+use Rattle.frame.specs.declared.FixedHeader.{FixedHeader}
+use Rattle.frame.specs.declared.Parsed.{Parsed}
+use Rattle.frame.specs.declared.Parsed.the-variants as headers
 use Rattle.frame.specs.declared.Deframer.{Deframer}
 use Rattle.frame.specs.declared.Progress.{Progress}
 use Rattle.frame.specs.declared.Progress.the-variants.{Frame, NeedMore, Refused}
@@ -10,6 +15,24 @@ use Rattle.frame.specs.declared.End.{End}
 use Rattle.frame.specs.declared.End.the-variants as end
 use Rattle.message.specs.declared.Record.{Record}
 use Rattle.message.specs.declared.Record.the-variants as records
+
+-- "data type | 0 unary, 1 stream"; "stream type | 1 Init, 2 Data, 3 Feedback, 4 Close": the stream type, and 0 for unary
+unfoldable pub typeNumber : FrameType → ℕ
+typeNumber types.Unary = 0
+typeNumber types.Init = 1
+typeNumber types.Data = 2
+typeNumber types.Feedback = 3
+typeNumber types.Close = 4
+
+-- A header says type, sizes and id, or it is refused.
+unfoldable pub parsedError : Parsed → ℕ
+parsedError (headers.Good h) = 0
+parsedError (headers.Refused code) = code
+
+-- what a good one says; of a refused one all is zero
+unfoldable pub headerIn : Parsed → FixedHeader
+headerIn (headers.Good h) = h
+headerIn (headers.Refused code) = record { «frame_type» = types.Unary; total = 0; «header_size» = 0; id = 0 }
 
 -- "The state is a count of held bytes and a refusal number (0 for none)."
 abbrev pub stateOf : (held error : ℕ) → Deframer

@@ -1,11 +1,51 @@
 // Each answer that is an enum as numbers: the error code, 0 for none, and the value beside it.
 use frame::End;
+use frame::FixedHeader;
+use frame::FrameType;
+use frame::Parsed;
 use frame::Progress;
 use message::Record;
 use writer::Encoded;
 ghost use mathlib.Core.Path.{_≡_};
 ghost use Rattle.writer.specs.Writing.{errorOf, countOf};
-ghost use Rattle.bekurapi.specs.Answers.{progressError, progressSize, endError, endShort, recordError};
+ghost use Rattle.bekurapi.specs.Answers.{typeNumber, parsedError, headerIn, progressError, progressSize, endError, endShort, recordError};
+
+// The stream type, and 0 for unary.
+pub(crate) fn type_number(frame_type: FrameType) -> u32
+    ensures { λ r. ⌜ r ≡ typeNumber «frame_type» ⌝ }
+{
+    match frame_type {
+        FrameType::Unary => 0,
+        FrameType::Init => 1,
+        FrameType::Data => 2,
+        FrameType::Feedback => 3,
+        FrameType::Close => 4,
+    }
+}
+
+pub(crate) fn parsed_error(parsed: Parsed) -> u32
+    ensures { λ r. ⌜ r ≡ parsedError parsed ⌝ }
+{
+    match parsed {
+        Parsed::Good(_) => 0,
+        Parsed::Refused(code) => code,
+    }
+}
+
+// What a good header says; of a refused one all is zero.
+pub(crate) fn header_in(parsed: Parsed) -> FixedHeader
+    ensures { λ r. ⌜ r ≡ headerIn parsed ⌝ }
+{
+    match parsed {
+        Parsed::Good(header) => header,
+        Parsed::Refused(_) => FixedHeader {
+            frame_type: FrameType::Unary,
+            total: 0,
+            header_size: 0,
+            id: 0,
+        },
+    }
+}
 
 pub(crate) fn progress_error(progress: Progress) -> u32
     ensures { λ r. ⌜ r ≡ progressError progress ⌝ }

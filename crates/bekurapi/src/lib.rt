@@ -9,12 +9,16 @@ use answers::encoded_error;
 use answers::encoded_size;
 use answers::end_error;
 use answers::end_short;
+use answers::header_in;
+use answers::parsed_error;
 use answers::progress_error;
 use answers::progress_size;
 use answers::record_error;
+use answers::type_number;
 use frame::Deframer;
 use frame::deframe;
 use frame::finish;
+use frame::parse_header;
 use kinds::read_as;
 use kinds::write_as;
 use numbers::numbers_of;
@@ -22,11 +26,11 @@ use numbers::record_from;
 use numbers::store;
 ghost use mathlib.Core.Path.{_≡_};
 ghost use lib.ListN.{length};
-ghost use Rattle.frame.specs.Header.{headerError};
+ghost use Rattle.frame.specs.Header.{headerError, parsed};
 ghost use Rattle.frame.specs.Deframe.{ended};
 ghost use Rattle.message.specs.Spans.{spansOf};
 ghost use Rattle.writer.specs.Writing.{errorOf, countOf};
-ghost use Rattle.bekurapi.specs.Answers.{stateOf, deframedFrom, progressError, progressSize, endError, endShort, recordError};
+ghost use Rattle.bekurapi.specs.Answers.{typeNumber, parsedError, headerIn, stateOf, deframedFrom, progressError, progressSize, endError, endShort, recordError};
 ghost use Rattle.bekurapi.specs.Kinds.{readAs};
 ghost use Rattle.bekurapi.specs.Numbers.{numbersOf, overlaid, writtenFrom};
 
@@ -36,6 +40,32 @@ pub extern "C" fn trpc_header_check(bytes: &[u8]) -> u32
     ensures { λ r. ⌜ r ≡ headerError (now (bytes .entry)) ⌝ }
 {
     frame::trpc_header_check(bytes)
+}
+
+// What a fixed header says. Answers its error code; where it is 0, `frame_type` is the stream type, or 0 for unary. All are 0
+// after a refusal.
+#[no_mangle]
+pub extern "C" fn trpc_header_parse(
+    bytes: &[u8],
+    frame_type: &mut u32,
+    total: &mut usize,
+    header_size: &mut usize,
+    id: &mut u32,
+) -> u32
+    ensures { λ r. ⌜ (r ≡ parsedError (parsed (now (bytes .entry))))
+        × (now («frame_type» .exit) ≡ typeNumber (headerIn (parsed (now (bytes .entry))) .«frame_type»))
+        × (now (total .exit) ≡ headerIn (parsed (now (bytes .entry))) .total)
+        × (now («header_size» .exit) ≡ headerIn (parsed (now (bytes .entry))) .«header_size»)
+        × (now (id .exit) ≡ headerIn (parsed (now (bytes .entry))) .id) ⌝ }
+{
+    let answer = parse_header(bytes);
+    let header = header_in(answer);
+    let said = header.frame_type;
+    *frame_type = type_number(said);
+    *total = header.total;
+    *header_size = header.header_size;
+    *id = header.id;
+    parsed_error(answer)
 }
 
 // One call of the deframer, whose state is `held` and `error`, both 0 when fresh. Answers the error code; where it is 0, `size`

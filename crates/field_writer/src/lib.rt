@@ -6,7 +6,6 @@
 mod storing;
 
 use storing::has_room;
-use storing::put_content;
 use storing::put_varint;
 ghost use mathlib.Core.Path.{_≡_};
 ghost use Rattle.field_writer.specs.Writing.{putVarint, putTag, putBytes, signExtended, stored, writtenAt};
@@ -61,6 +60,16 @@ pub fn write_tag(number: u32, wire_type: u32, out: &mut [u8], at: usize) -> Writ
     write_varint((number as u64) * 8 + (wire_type as u64), out, at)
 }
 
+// Writes bytes as they are, with no tag and no length.
+pub fn write_raw(content: &[u8], out: &mut [u8], at: usize) -> Written
+    ensures { λ r. ⌜ (r ≡ writtenAt (now (out .entry)) at (now (content .entry))) × (now (out .exit) ≡ stored (now (out .entry)) at (now (content .entry))) ⌝ }
+{
+    if has_room(out, at, content.len()) {
+        return Written::Next(at + bytes::copy(content, &mut out[at..]));
+    }
+    Written::Full
+}
+
 // Writes a field of bytes: its tag, the length of its content, the content.
 pub fn write_bytes(number: u32, content: &[u8], out: &mut [u8], at: usize) -> Written
     ensures { λ r. ⌜ (r ≡ writtenAt (now (out .entry)) at (putBytes number (now (content .entry)))) × (now (out .exit) ≡ stored (now (out .entry)) at (putBytes number (now (content .entry)))) ⌝ }
@@ -72,7 +81,7 @@ pub fn write_bytes(number: u32, content: &[u8], out: &mut [u8], at: usize) -> Wr
         if has_room(out, at + head, content.len()) {
             let behind_tag = put_varint(tag, out, at);
             let start = put_varint(size, out, behind_tag);
-            return Written::Next(put_content(content, out, start));
+            return write_raw(content, out, start);
         }
     }
     Written::Full

@@ -31,11 +31,3 @@ pub(crate) fn put_varint(v: u64, out: &mut [u8], at: usize) -> usize
     out[i] = rest as u8;
     i + 1
 }
-
-// Stores `content`, and returns the place behind it.
-pub(crate) fn put_content(content: &[u8], out: &mut [u8], at: usize) -> usize
-    requires { ⌜ at + length (now content) ≤ length (now out) ⌝ }
-    ensures { λ r. ⌜ (r ≡ at + length (now (content .entry))) × (now (out .exit) ≡ stored (now (out .entry)) at (now (content .entry))) ⌝ }
-{
-    at + bytes::copy(content, &mut out[at..])
-}

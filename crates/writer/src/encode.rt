@@ -2,7 +2,7 @@
 use crate::Encoded;
 use crate::header::data_type;
 use crate::header::put_header;
-use crate::put::put_bytes;
+use crate::put::place_behind;
 use crate::put::put_message;
 use crate::sizes::Sizes;
 use crate::sizes::message_sizes;
@@ -77,7 +77,7 @@ fn put_frame(
         out,
     );
     let end = put_message(schema_number(kind), c, sizes, source, rows, out, start);
-    put_bytes(body, out, end)
+    place_behind(field_writer::write_raw(body, out, end), end)
 }
 
 // Of a content that has no other ground of refusal.

@@ -26,7 +26,7 @@ ghost use Rattle.outgoing.specs.Items.{itemsOf, Placed, itemWithin, itemsWithin
 ghost use Rattle.writer.specs.Items.{integerOf, rowOf, RowIn, Puts, placeOf, putItem, putItems, putPart, putInit, putMessage, itemsSize, initSizes, sizesOf, initWithin, messageWithin, RowsIn};
 
 // There was room.
-fn place_behind(w: Written, at: usize) -> usize
+pub(crate) fn place_behind(w: Written, at: usize) -> usize
     ensures { λ r. ⌜ r ≡ placeOf w at ⌝ }
 {
     match w {
@@ -224,12 +224,4 @@ pub(crate) fn put_message(
         return put_init(c, sizes, source, rows, out, at);
     }
     put_fields(schema, c, source, rows, out, at)
-}
-
-// Bytes as they are.
-pub(crate) fn put_bytes(content: &[u8], out: &mut [u8], at: usize) -> usize
-    requires { ⌜ at + length (now content) ≤ length (now out) ⌝ }
-    ensures { λ r. ⌜ Puts (now (content .entry)) (now (out .entry)) at r (now (out .exit)) ⌝ }
-{
-    at + bytes::copy(content, &mut out[at..])
 }

@@ -1,7 +1,7 @@
 //! The library under test, through its C interface (include/bekurapi.h): safe functions over its declarations.
 
 use crate::reference::deframer::State;
-use crate::reference::interface::{Deframed, Finished, Removed, Written};
+use crate::reference::interface::{Deframed, Finished, Parsed, Removed, Written};
 use crate::reference::queue::{Job, Queue};
 
 #[cfg(not(feature = "library"))]
@@ -11,6 +11,7 @@ use bekurapi_sys as c;
 
 /// What stands where the library has to put an answer, so that one which it leaves out is seen.
 const NO_ANSWER: usize = 0x5555_5555_5555;
+const NO_NUMBER: u32 = 0x5555_5555;
 const NO_JOB: Job = Job { connection: 1, request: 2, timeout: 3, arrival: 4 };
 
 // SAFETY, for every function below: each pointer is that of a slice or reference that lives through the call, with the slice's
@@ -18,6 +19,14 @@ const NO_JOB: Job = Job { connection: 1, request: 2, timeout: 3, arrival: 4 };
 
 pub fn header_check(bytes: &[u8]) -> u32 {
     unsafe { c::trpc_header_check(bytes.as_ptr(), bytes.len()) }
+}
+
+pub fn header_parse(bytes: &[u8]) -> Parsed {
+    let (mut frame_type, mut id) = (NO_NUMBER, NO_NUMBER);
+    let (mut total, mut header_size) = (NO_ANSWER, NO_ANSWER);
+    let error =
+        unsafe { c::trpc_header_parse(bytes.as_ptr(), bytes.len(), &mut frame_type, &mut total, &mut header_size, &mut id) };
+    Parsed { error, frame_type, total, header_size, id }
 }
 
 pub fn deframe(state: State, buffer: &mut [u8], piece: &[u8]) -> Deframed {

@@ -10,8 +10,9 @@ use std::sync::OnceLock;
 
 pub static FAULT: OnceLock<String> = OnceLock::new();
 
-pub const FAULTS: [&str; 10] = [
+pub const FAULTS: [&str; 11] = [
     "header-size-of-total",
+    "id-of-16-bits",
     "taken-one-less",
     "held-forgotten",
     "byte-behind-the-frame",
@@ -38,6 +39,22 @@ pub unsafe fn trpc_header_check(bytes: *const u8, len: usize) -> u32 {
         }
     }
     code
+}
+
+pub unsafe fn trpc_header_parse(
+    bytes: *const u8,
+    len: usize,
+    frame_type: *mut u32,
+    total: *mut usize,
+    header_size: *mut usize,
+    id: *mut u32,
+) -> u32 {
+    let answer = interface::header_parse(from_raw_parts(bytes, len));
+    *frame_type = answer.frame_type;
+    *total = answer.total;
+    *header_size = answer.header_size;
+    *id = if fault("id-of-16-bits") { answer.id & 0xFFFF } else { answer.id };
+    answer.error
 }
 
 #[allow(clippy::too_many_arguments)]

@@ -1,6 +1,6 @@
 -- `write_bytes` meets its contract. There is room for all three parts before the first is stored; one stored behind another is both stored at once (`Outputs`).
 use Prim.Native.Nat.{ℕ, _+_, _≤_}
-use mathlib.Core.Path.{_≡_, sym, _∙_}
+use mathlib.Core.Path.{_≡_, refl, sym, _∙_}
 use mathlib.Core.Bool.{Bool, true, false}
 use mathlib.Core.List.{List, _++_}
 use lib.ListN.{length, length-append}
@@ -9,7 +9,8 @@ use native.Mathlib.Omega.{arith}
 use borrow.Author.Tests.{leb-true, leb-false}
 use borrow.Author.Needs.{needs}
 use Rattle.field_writer.specs.Writing.{putVarint, stored, writtenAt}
-use Rattle.field_writer.specs.declared.Written.the-variants.{Next, Full}
+use Rattle.field_writer.specs.declared.Written.{Written}
+use Rattle.field_writer.specs.declared.Written.the-variants.{Full}
 use Rattle.field_writer.proofs.Encoding.{varint-bounds}
 use Rattle.field_writer.proofs.Outputs.{stored-then, length-stored, written, full}
 use Rattle.field_writer.proofs.write_bytes.Statement.{statement}
@@ -68,10 +69,14 @@ module _ (out : List ℕ) (at : ℕ) (v w : ℕ) (content : List ℕ) (m n : ℕ
             third : j + length content ≤ length out₂
             third = rw two (omega (arith, two-fit, two-place, length-stored out at (tag ++ size)))
 
-            done : (k : ℕ) → k ≡ j + length content → (out₃ : List ℕ) → out₃ ≡ stored out₂ j content
-                → (Next k ≡ writtenAt out at field) × (out₃ ≡ stored out at field)
-            done k is-k out₃ is-out₃ = (
-              written out at field (omega (arith, all-fit, field-length)) k (omega (arith, two-place, field-length, length-append tag size)),
+            third-place : j + length content ≡ at + length field
+            third-place = omega (arith, two-place, field-length, length-append tag size)
+
+            done : (w : Written) → w ≡ writtenAt out₂ j content → (out₃ : List ℕ) → out₃ ≡ stored out₂ j content
+                → (w ≡ writtenAt out at field) × (out₃ ≡ stored out at field)
+            done w is-w out₃ is-out₃ = (
+              is-w ∙ sym (written out₂ j content third (j + length content) refl)
+                  ∙ written out at field (omega (arith, all-fit, field-length)) (j + length content) third-place,
               is-out₃ ∙ rw (two, two-place) (stored-then out at (tag ++ size) content two-fit),
             )
 
@@ -134,30 +139,16 @@ put-varint-requires-2 c κs =
     (at-has-room2 .has-room2 .ensures) (at-if2 .if2 .taken) _ (at-put-varint .put-varint .ensures .0) _
     (at-put-varint .put-varint .ensures .1)
 
-put-content-requires : tie.Need-put-content-requires
-put-content-requires c κs =
-    let at-put-varint2 = c .before .before .before in
-    let at-put-varint = at-put-varint2 .before .before .before .before in
-    let at-if2 = at-put-varint .before .before in
-    let at-has-room2 = at-if2 .before in
-    let at-if1 = at-has-room2 .before .before in
-    let at-has-room = at-if1 .before in
-    let at-varint-len2 = at-has-room .before .before in
-    let at-varint-len = at-varint-len2 .before in
-    let entry = at-varint-len .before .before .before in
-    third (entry .args .out .now) (entry .args .at) _ _ (entry .args .content .now) _ _ (at-varint-len .varint-len .ensures)
-    (at-varint-len2 .varint-len2 .ensures) _ (at-has-room .has-room .ensures) (at-if1 .if1 .taken) _
-    (at-has-room2 .has-room2 .ensures) (at-if2 .if2 .taken) _ (at-put-varint .put-varint .ensures .0) _
-    (at-put-varint .put-varint .ensures .1) _ (at-put-varint2 .put-varint2 .ensures .0) _
-    (at-put-varint2 .put-varint2 .ensures .1)
+write-raw-requires : tie.Need-write-raw-requires
+write-raw-requires c κs = search needs
 
 same-length : tie.Need-same-length
 same-length c = search needs
 
 returns : tie.Need-returns
 returns c =
-    let at-put-content = c .before .before in
-    let at-put-varint2 = at-put-content .before .before .before .before in
+    let at-write-raw = c .before .before in
+    let at-put-varint2 = at-write-raw .before .before .before .before in
     let at-put-varint = at-put-varint2 .before .before .before .before in
     let at-if2 = at-put-varint .before .before in
     let at-has-room2 = at-if2 .before in
@@ -170,8 +161,8 @@ returns c =
     (at-varint-len2 .varint-len2 .ensures) _ (at-has-room .has-room .ensures) (at-if1 .if1 .taken) _
     (at-has-room2 .has-room2 .ensures) (at-if2 .if2 .taken) _ (at-put-varint .put-varint .ensures .0) _
     (at-put-varint .put-varint .ensures .1) _ (at-put-varint2 .put-varint2 .ensures .0) _
-    (at-put-varint2 .put-varint2 .ensures .1) _ (at-put-content .put-content .ensures .0) _
-    (at-put-content .put-content .ensures .1)
+    (at-put-varint2 .put-varint2 .ensures .1) _ (at-write-raw .write-raw .ensures .0) _
+    (at-write-raw .write-raw .ensures .1)
 
 same-length-2 : tie.Need-same-length-2
 same-length-2 c = search needs
@@ -212,7 +203,7 @@ write-bytes-spec =
     has-room-requires-2
     put-varint-requires
     put-varint-requires-2
-    put-content-requires
+    write-raw-requires
     same-length
     returns
     same-length-2

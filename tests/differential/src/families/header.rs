@@ -1,4 +1,4 @@
-//! The judge of a fixed header: every length from 0 to 40, good headers with some bytes changed, and any bytes.
+//! The judge of a fixed header, and what a good one says: every length from 0 to 40, good headers with some bytes changed, and any bytes.
 
 use crate::difference::{hex, same, Difference};
 use crate::lent::Lent;
@@ -17,6 +17,7 @@ impl Case for Header {
         let expected = interface::header_check(&self.0);
         tally.count(expected);
         same(&"the error code", &expected, &library::header_check(lent.get()))?;
+        same(&"what it says", &interface::header_parse(&self.0), &library::header_parse(lent.get()))?;
         lent.holds("the header", &self.0)
     }
 

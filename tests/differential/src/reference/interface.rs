@@ -2,13 +2,24 @@
 //! can be compared value by value.
 
 use super::deframer::{self, Answer, End, State};
+use super::header::{self, FixedHeader};
 use super::messages::{Kind, Message, FIELD_NUMBERS};
 use super::queue::{Job, Queue};
-use super::{header, reader, writer};
+use super::{reader, writer};
 
 /// How many numbers a record has, and where its fields begin.
 pub const RECORD_NUMBERS: usize = 24;
 pub const FIRST_FIELD: usize = 8;
+
+/// What a fixed header says. All is 0 after a refusal.
+#[derive(Clone, Copy, Debug, Default, PartialEq, Eq)]
+pub struct Parsed {
+    pub error: u32,
+    pub frame_type: u32,
+    pub total: usize,
+    pub header_size: usize,
+    pub id: u32,
+}
 
 /// What a call of the deframer answered. `size` is the whole frame's, 0 where there is none.
 #[derive(Clone, Copy, Debug, PartialEq, Eq)]
@@ -42,6 +53,17 @@ pub struct Removed {
 
 pub fn header_check(bytes: &[u8]) -> u32 {
     header::judge(bytes)
+}
+
+/// "0 unary, 1 stream", "1 Init, 2 Data, 3 Feedback, 4 Close; ignored in unary": the type is the stream type, 0 for unary.
+pub fn header_parse(bytes: &[u8]) -> Parsed {
+    match header::judge(bytes) {
+        0 => {
+            let FixedHeader { data_type, stream_type, total, header_size, id, .. } = header::first(bytes);
+            Parsed { error: 0, frame_type: u32::from(data_type * stream_type), total, header_size, id }
+        }
+        error => Parsed { error, ..Parsed::default() },
+    }
 }
 
 pub fn deframe(state: State, buffer: &mut [u8], piece: &[u8]) -> Deframed {

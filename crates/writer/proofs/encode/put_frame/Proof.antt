@@ -9,12 +9,14 @@ use Rattle.frame.specs.Header.{maxFrame}
 use Rattle.decoder.specs.Rows.{rowsIn}
 use Rattle.writer.specs.Writing.{dataType, headerSize, fixedHeader, maxHeader}
 use Rattle.outgoing.specs.Items.{schemaNumber}
-use Rattle.writer.specs.Items.{sizesOf, messageWithin, putMessage, Puts, RowsIn, messageIn, frameWith}
+use Rattle.field_writer.specs.Writing.{stored, writtenAt}
+use Rattle.field_writer.specs.declared.Written.{Written}
+use Rattle.writer.specs.Items.{sizesOf, messageWithin, putMessage, placeOf, Puts, RowsIn, messageIn, frameWith}
 use Rattle.outgoing.specs.declared.Content.{Content}
 use Rattle.writer.specs.declared.sizes.Sizes.{Sizes}
 use Rattle.writer.proofs.Messages.{message-put, size-is}
 use Rattle.writer.proofs.Refusals.{header-length}
-use Rattle.writer.proofs.Outputs.{Left, starts, first-fits, steps, ends}
+use Rattle.writer.proofs.Outputs.{Left, starts, first-fits, steps, ends, wrote}
 use borrow.Author.Needs.{needs}
 use native.Mathlib.Omega.{arith}
 use Rattle.writer.proofs.encode.put_frame.Statement.{statement}
@@ -62,11 +64,9 @@ module _ (c : Content) (source numbers body out : List ℕ) (sizes : Sizes)
       behind : Left body (frameWith c message body) out 0 out₂ j
       behind = steps message body left (rw put-is at two)
 
-      body-fits : j + length body ≤ length out₂
-      body-fits = behind .room
-
-      done : {end : ℕ} {out₃ : List ℕ} → Puts body out₂ j end out₃ → Puts (frameWith c message body) out 0 end out₃
-      done three = ends behind three
+      done : (w : Written) → w ≡ writtenAt out₂ j body → (end : ℕ) → end ≡ placeOf w j → (out₃ : List ℕ) → out₃ ≡ stored out₂ j body
+          → Puts (frameWith c message body) out 0 end out₃
+      done w is-w end is-end out₃ is-out₃ = ends behind (wrote body out₂ j (behind .room) w is-w end is-end out₃ is-out₃)
 
 add-total : tie.Need-add-total
 add-total c = search needs
@@ -95,25 +95,19 @@ put-message-requires c κs =
     message-fits (args .c) (args .source .now) (args .rows .now) (args .body .now) (args .out .now) (args .sizes) (start .pre) _
     (at-header-size .header-size .ensures) (at-put-header .put-header .ensures) _ (c .before .schema-number .ensures)
 
-put-bytes-requires : tie.Need-put-bytes-requires
-put-bytes-requires c κs =
-    let at-put-message = c .before .before .before in
-    let at-schema-number = at-put-message .before .before in
-    let at-put-header = at-schema-number .before .before .before in
-    let at-header-size = at-put-header .before .before in
-    let start = at-header-size .before .before .before .before .before .before in
-    let args = start .args in
-    body-fits (args .c) (args .source .now) (args .rows .now) (args .body .now) (args .out .now) (args .sizes) (start .pre) _
-    (at-header-size .header-size .ensures) (at-put-header .put-header .ensures) _ (at-schema-number .schema-number .ensures)
-    (at-put-message .put-message .ensures)
+write-raw-requires : tie.Need-write-raw-requires
+write-raw-requires c κs = search needs
+
+place-behind-requires : tie.Need-place-behind-requires
+place-behind-requires c κs = search needs
 
 same-length : tie.Need-same-length
 same-length c = search needs
 
 returns : tie.Need-returns
 returns c =
-    let at-put-bytes = c .before .before in
-    let at-put-message = at-put-bytes .before .before .before .before in
+    let at-write-raw = c .before .before .before in
+    let at-put-message = at-write-raw .before .before .before .before in
     let at-schema-number = at-put-message .before .before in
     let at-put-header = at-schema-number .before .before .before in
     let at-header-size = at-put-header .before .before in
@@ -121,7 +115,8 @@ returns c =
     let args = start .args in
     done (args .c) (args .source .now) (args .rows .now) (args .body .now) (args .out .now) (args .sizes) (start .pre) _
     (at-header-size .header-size .ensures) (at-put-header .put-header .ensures) _ (at-schema-number .schema-number .ensures)
-    (at-put-message .put-message .ensures) (at-put-bytes .put-bytes .ensures)
+    (at-put-message .put-message .ensures) _ (at-write-raw .write-raw .ensures .0) _ (c .place-behind .ensures) _
+    (at-write-raw .write-raw .ensures .1)
 
 pub put-frame-spec : {M : Type 1} → statement M
 put-frame-spec =
@@ -134,6 +129,7 @@ put-frame-spec =
     put-header-requires
     schema-number-requires
     put-message-requires
-    put-bytes-requires
+    write-raw-requires
+    place-behind-requires
     same-length
     returns)
