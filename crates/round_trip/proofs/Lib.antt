@@ -1,6 +1,9 @@
 -- The theorems of demand 2: what is written reads back, and when nothing is written
 pub mod RoundTrip
 pub mod Exactly
+-- The same of the functions themselves, and that what they take a call to ensure is what the contract says
+pub mod Called
+pub mod Contracts
 -- The laws under them: a message by its schema, then the frame and the record
 mod Said
 mod Written

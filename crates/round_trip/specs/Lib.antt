@@ -3,3 +3,5 @@ pub mod Meaning
 pub mod Statement
 -- and what it refuses
 pub mod Refusals
+-- both, of the functions themselves
+pub mod Calls

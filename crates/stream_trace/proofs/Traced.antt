@@ -1,0 +1,96 @@
+-- For a user: demand 3, of the functions themselves.
+--
+-- Promised, of any list of calls of `deframe` and `finish` from the fresh state, over a buffer of at least 65,536 bytes of any content, and of a call of `read` for each
+-- whole frame before the next call of `deframe`, with any kind and any row numbers: whatever the calls gave, if each gave what its contract ensures, then the frames, the
+-- records or error codes, the parts, the row numbers and the verdict are those of the uncut reading of the bytes taken, and of all bytes once all are taken or a header is
+-- refused. Nothing else is known of a call: `proofs/Contracts` says that what is taken here for a function's `ensures` is just that.
+-- Not promised: anything of a buffer or a state that the caller changes between two calls, or of a frame that is read after the next call.
+-- Ruled out: a contract too weak for demand 3, as one that leaves open what `deframe` keeps in the buffer, or what `read` leaves in the row numbers.
+use Prim.Native.Nat.{ℕ, suc, _≤_}
+use mathlib.Core.Path.{_≡_, refl, ap, sym, subst, _∙_}
+use mathlib.Core.Bool.{false}
+use mathlib.Core.List.{List, [], _∷_}
+use lib.ListN.{length, take}
+use Rattle.frame.specs.Header.{maxFrame}
+use Rattle.frame.specs.Deframe.{Out, fresh, deframed, ended}
+use Rattle.frame.specs.Calls.{Call, push, finish, pushWrong, finishWrong, Event, pushed, finished, pushedWrong, finishedWrong, run, Offered}
+use Rattle.frame.specs.declared.Deframer.{Deframer}
+use Rattle.frame.specs.declared.Step.{Step}
+use Rattle.frame.specs.declared.Progress.{Progress}
+use Rattle.frame.specs.declared.Progress.the-variants.{Frame, NeedMore, Refused}
+use Rattle.frame.specs.declared.End.{End}
+use Rattle.message.specs.Frames.{Reading, readFrame}
+use Rattle.message.specs.declared.Kind.{Kind}
+use Rattle.message.specs.declared.Record.{Record}
+use Rattle.reader.specs.Stream.{Naming, readOne, readingsOf, ReadFaithfully}
+use Rattle.reader.proofs.FaithfulReading.{read-faithfully}
+use Rattle.stream_trace.specs.Trace.{Deframes, Reads, Trace, ReadNext, ReadEach, TracedFaithfully}
+
+-- a contract that gives each part of an answer gives all of it
+all-deframed : (state : Deframer) (buffer piece : List ℕ) (o : Out) → Deframes state buffer piece o → o ≡ deframed state buffer piece
+all-deframed state buffer piece o d =
+    ap (λ (x : Step). record { step = x; buffer = o .buffer }) (d .0) ∙ ap (λ (x : List ℕ). record { step = deframed state buffer piece .step; buffer = x }) (d .1)
+
+pub all-read : (kind : Kind) (frame lent : List ℕ) (x : Reading) → Reads kind frame lent x → x ≡ readFrame kind frame lent
+all-read kind frame lent x e =
+    let y = readFrame kind frame lent in
+    ap (λ (z : Record). record { answer = z; header = x .header; body = x .body; attachment = x .attachment; rows = x .rows }) (e .0)
+    ∙ ap (λ (z : List ℕ). record { answer = y .answer; header = z; body = x .body; attachment = x .attachment; rows = x .rows }) (e .1)
+    ∙ ap (λ (z : List ℕ). record { answer = y .answer; header = y .header; body = z; attachment = x .attachment; rows = x .rows }) (e .2)
+    ∙ ap (λ (z : List ℕ). record { answer = y .answer; header = y .header; body = y .body; attachment = z; rows = x .rows }) (e .3)
+    ∙ ap (λ (z : List ℕ). record { answer = y .answer; header = y .header; body = y .body; attachment = y .attachment; rows = z }) (e .4)
+
+-- a trace is the run of its calls
+traced : (state : Deframer) (buffer : List ℕ) (events : List Event) → Trace state buffer events → (calls : List Call) × (events ≡ run state buffer calls)
+unfolding run
+traced state buffer [] t = ([], refl)
+traced state buffer (pushed piece o ∷ events) t =
+    let later = traced (o .step .next) (o .buffer) events (t .1) in (
+      push piece ∷ later .0,
+      ap (λ (es : List Event). pushed piece o ∷ es) (later .1)
+          ∙ ap (λ (x : Out). pushed piece x ∷ run (x .step .next) (x .buffer) (later .0)) (all-deframed state buffer piece o (t .0)),
+    )
+traced state buffer (finished e ∷ events) t =
+    let later = traced state buffer events (t .1) in (
+      finish ∷ later .0,
+      ap (λ (es : List Event). finished e ∷ es) (later .1) ∙ ap (λ (x : End). finished x ∷ run state buffer (later .0)) (t .0),
+    )
+traced state buffer (pushedWrong s b o ∷ events) t =
+    let later = traced state buffer events (t .1) in (
+      pushWrong s b (t .0 .0) ∷ later .0,
+      ap (λ (es : List Event). pushedWrong s b o ∷ es) (later .1)
+          ∙ ap (λ (x : Out). pushedWrong s b x ∷ run state buffer (later .0)) (all-deframed s b (t .0 .0) o (t .0 .1)),
+    )
+traced state buffer (finishedWrong s b e ∷ events) t =
+    let later = traced state buffer events (t .1) in (
+      finishWrong s b ∷ later .0,
+      ap (λ (es : List Event). finishedWrong s b e ∷ es) (later .1) ∙ ap (λ (x : End). finishedWrong s b x ∷ run state buffer (later .0)) (t .0),
+    )
+
+-- the readings are those of the frames as they stood in the buffer
+next-read : (named : Naming) (n : ℕ) (progress : Progress) (buffer : List ℕ) (Later : ℕ → List Reading → Type 0) (later : ℕ → List Reading)
+    → ((m : ℕ) (ys : List Reading) → Later m ys → ys ≡ later m)
+    → (xs : List Reading) → ReadNext named n progress buffer Later xs → xs ≡ readOne named n progress buffer later
+next-read named n (Frame size) buffer Later later h [] e = absurd e
+next-read named n (Frame size) buffer Later later h (x ∷ xs) e =
+    ap (λ (y : Reading). y ∷ xs) (all-read (named n .kind) (take size buffer) (named n .lent) x (e .0))
+    ∙ ap (λ (ys : List Reading). readFrame (named n .kind) (take size buffer) (named n .lent) ∷ ys) (h (suc n) xs (e .1))
+next-read named n NeedMore buffer Later later h xs e = h n xs e
+next-read named n (Refused code) buffer Later later h xs e = h n xs e
+
+each-read : (named : Naming) (events : List Event) (n : ℕ) (xs : List Reading) → ReadEach named n events xs → xs ≡ readingsOf named n events
+each-read named [] n xs e = e
+each-read named (pushed piece o ∷ events) n xs e =
+    next-read named n (o .step .progress) (o .buffer) (λ m ys. ReadEach named m events ys) (λ m. readingsOf named m events) (each-read named events) xs e
+each-read named (finished f ∷ events) n xs e = each-read named events n xs e
+each-read named (pushedWrong s b o ∷ events) n xs e = each-read named events n xs e
+each-read named (finishedWrong s b f ∷ events) n xs e = each-read named events n xs e
+
+pub traced-faithfully : (named : Naming) (bytes buffer : List ℕ) (events : List Event) (readings : List Reading)
+    → maxFrame ≤ length buffer → Trace fresh buffer events → Offered false bytes events → ReadEach named 0 events readings
+    → TracedFaithfully named bytes events readings
+traced-faithfully named bytes buffer events readings big trace offered reads =
+    let made = traced fresh buffer events trace in
+    let offered-run = subst (λ (es : List Event). Offered false bytes es) (made .1) offered in
+    let stream = subst (λ (es : List Event). ReadFaithfully named bytes es) (sym (made .1)) (read-faithfully named (made .0) bytes buffer big offered-run) in
+    record { stream = stream; readings-are = each-read named events 0 readings reads ∙ stream .readings }
