@@ -12,7 +12,7 @@ use mathlib.Core.Bool.{false}
 use mathlib.Core.List.{List, [], _∷_}
 use lib.ListN.{length, take}
 use Rattle.frame.specs.Header.{maxFrame}
-use Rattle.frame.specs.Deframe.{Out, fresh, deframed, ended}
+use Rattle.frame.specs.Deframe.{Out, fresh, deframed}
 use Rattle.frame.specs.Calls.{Call, push, finish, pushWrong, finishWrong, Event, pushed, finished, pushedWrong, finishedWrong, run, Offered}
 use Rattle.frame.specs.declared.Deframer.{Deframer}
 use Rattle.frame.specs.declared.Step.{Step}
@@ -41,7 +41,7 @@ all-read kind frame lent x e =
     ∙ ap (λ (z : List ℕ). record { answer = y .answer; header = y .header; body = y .body; attachment = y .attachment; rows = z }) (e .4)
 
 -- a trace is the run of its calls
-traced : (state : Deframer) (buffer : List ℕ) (events : List Event) → Trace state buffer events → (calls : List Call) × (events ≡ run state buffer calls)
+pub traced : (state : Deframer) (buffer : List ℕ) (events : List Event) → Trace state buffer events → (calls : List Call) × (events ≡ run state buffer calls)
 unfolding run
 traced state buffer [] t = ([], refl)
 traced state buffer (pushed piece o ∷ events) t =
