@@ -52,7 +52,7 @@ record-back (records.Feedback r) h = refl
 record-back (records.Close r) h = rw (signed-bits (r .«close_type») (h .0), signed-bits (r .ret) (h .1), signed-bits (r .«func_ret») (h .2)) refl
 record-back (records.Refused code) h = absurd h
 
-slot-count : (r : Record) → length (slotsOf r) ≡ 16
+pub slot-count : (r : Record) → length (slotsOf r) ≡ 16
 unfolding slotsOf
 slot-count (records.Request r) = refl
 slot-count (records.Response r) = refl
@@ -62,7 +62,7 @@ slot-count (records.Feedback r) = refl
 slot-count (records.Close r) = refl
 slot-count (records.Refused code) = refl
 
-all-there : (l : List ℕ) → length l ≡ 24 → padded l ≡ l
+pub all-there : (l : List ℕ) → length l ≡ 24 → padded l ≡ l
 unfolding padded
 all-there l e = take-at l (replicate 24 0) 24 e
 
@@ -80,7 +80,7 @@ small n h = by (ltb n (2 ^ 31)) refl
     by true e = ltb-true n (2 ^ 31) e
     by false e = let g = ltb-false n (2 ^ 31) e in omega arith
 
-low : (v : ℕ) → mag (lowI32 v) < 2 ^ 31
+pub low : (v : ℕ) → mag (lowI32 v) < 2 ^ 31
 low v = small (v % 2 ^ 32) (omega arith)
 
 -- a record that was read is sound and of its kind, or it was refused

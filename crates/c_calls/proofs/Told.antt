@@ -17,7 +17,7 @@ use Rattle.frame.specs.declared.End.the-variants as end
 use Rattle.frame.proofs.Codes.{good-total}
 use Rattle.frame.proofs.Advance.{next-short, next-bad, next-part, next-whole, Shape, short, bad, part, whole, shape}
 use Rattle.bekurapi.specs.Answers.{progressError, progressSize, endError, endShort}
-use Rattle.c_trace.specs.Calls.{progressOf, endOf}
+use Rattle.c_calls.specs.Calls.{progressOf, endOf}
 
 -- ---- a call of the deframer
 abbrev Told : Progress → Type 0

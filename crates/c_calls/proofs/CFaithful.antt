@@ -23,8 +23,8 @@ use Rattle.frame.proofs.Faithful.{faithful}
 use Rattle.bekurapi.specs.Answers.{stateOf, deframedFrom, progressError, endError}
 use Rattle.stream_trace.specs.Trace.{Trace}
 use Rattle.stream_trace.proofs.Traced.{traced}
-use Rattle.c_trace.specs.Calls.{Deframed, Finished, Read, Answers, Moves, Takes, Finishes, CEvent, deframe, finish, CTrace, progressOf, endOf, eventOf, CNaming, CNamed, Codes, Rows, Numbers, ReadNext, ReadEach, readOf, readAll, CFaithful}
-use Rattle.c_trace.proofs.Told.{progress-back, end-back}
+use Rattle.c_calls.specs.Calls.{Deframed, Finished, Read, Answers, Moves, Takes, Finishes, CEvent, deframe, finish, CTrace, progressOf, endOf, eventOf, CNaming, CNamed, Codes, Rows, Numbers, ReadNext, ReadEach, readOf, readAll, CFaithful}
+use Rattle.c_calls.proofs.Told.{progress-back, end-back}
 
 -- the numbers of each part of an answer, put together, are the answer
 module _ (held error : ℕ) (buffer piece : List ℕ) (d : Deframed) where

@@ -16,7 +16,9 @@ use denote.Triple.Clauses.{atExit}
 use Rattle.bekurapi.proofs.trpc_deframe as deframe
 use Rattle.bekurapi.proofs.trpc_finish as finish
 use Rattle.bekurapi.proofs.trpc_read as read
-use Rattle.c_trace.specs.Calls.{Deframed, Finished, Read, Answers, Moves, Takes, Finishes, Codes, Rows, Numbers}
+use Rattle.bekurapi.proofs.trpc_write as write
+use Rattle.c_calls.specs.Calls.{Deframed, Finished, Read, Answers, Moves, Takes, Finishes, Codes, Rows, Numbers}
+use Rattle.c_calls.specs.RoundTrip.{Written, Writes}
 
 -- what is lent, and what stands in it afterwards
 module _ {M : Type 1} (𝓤 : URA M) (H : Heap 𝓤) (A : Atoms 𝓤) (mem : Memory → SProp 𝓤) (run : Routine → Fun 𝓤) (a b c d e f : Lft) where
@@ -38,3 +40,9 @@ module _ {M : Type 1} (𝓤 : URA M) (H : Heap 𝓤) (A : Atoms 𝓤) (mem : Mem
       (atExit read.ended (a, (b, (c, tt))) (kind, (frame, (rows, (numbers, tt)))) (tt, (tt, (x .rows, (x .numbers, tt)))))
       ≡ sep 𝓤 (fact 𝓤 (Codes kind (now frame) (now rows) x)) (sep 𝓤 (fact 𝓤 (Rows kind (now frame) (now rows) x)) (fact 𝓤 (Numbers kind (now frame) (now rows) (now numbers) x)))
   read-ensures kind frame rows numbers x = refl
+
+  pub write-ensures : (kind : ℕ) (numbers source rows body out : RefT (List ℕ)) (size : RefT ℕ) (x : Written)
+      → write.clauses 𝓤 H A mem run (a, (b, (c, (d, (e, (f, tt)))))) (kind, (numbers, (source, (rows, (body, (out, (size, tt))))))) .ensures tt (x .code)
+      (atExit write.ended (a, (b, (c, (d, (e, (f, tt)))))) (kind, (numbers, (source, (rows, (body, (out, (size, tt))))))) (tt, (tt, (tt, (tt, (tt, (x .out, (x .size, tt))))))))
+      ≡ fact 𝓤 (Writes kind (now numbers) (now source) (now rows) (now body) (now out) x)
+  write-ensures kind numbers source rows body out size x = refl

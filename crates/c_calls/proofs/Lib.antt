@@ -1,0 +1,6 @@
+-- The theorems for a user, and that what they take each call to ensure is what the contracts say
+pub mod CFaithful
+pub mod CReadBack
+pub mod Contracts
+-- What the numbers of an answer say is the answer
+mod Told
