@@ -7,23 +7,22 @@
 -- Not promised: anything of a buffer, a count or a code that the caller changes between two calls, or of a frame that is read after the next call; nor of the declarations in
 -- include/bekurapi.h, which the tests compare.
 -- Ruled out: an answer whose numbers could mean two things, as a frame of size 0, and a deframer that gives another caller's count.
-use Prim.Native.Nat.{ℕ, suc, _≤_}
+use Prim.Native.Nat.{ℕ, _≤_}
 use mathlib.Core.Path.{_≡_, ap, sym, subst, _∙_}
 use mathlib.Core.Bool.{false}
-use mathlib.Core.List.{List, [], _∷_, _++_, map}
-use lib.ListN.{length, take}
+use mathlib.Core.List.{List, [], _∷_, map}
+use lib.ListN.{length}
 use Rattle.frame.specs.Header.{maxFrame}
 use Rattle.frame.specs.Deframe.{Out, fresh, ended}
 use Rattle.frame.specs.Stream.{Uncut}
-use Rattle.frame.specs.Calls.{Event, Offered, framesOf, frameIn, Faithful}
+use Rattle.frame.specs.Calls.{Event, Offered, Faithful}
 use Rattle.frame.specs.declared.Progress.{Progress}
-use Rattle.frame.specs.declared.Progress.the-variants.{Frame, NeedMore, Refused}
 use Rattle.frame.specs.declared.Deframer.{Deframer}
 use Rattle.frame.proofs.Faithful.{faithful}
 use Rattle.bekurapi.specs.Answers.{stateOf, deframedFrom, progressError, endError}
-use Rattle.stream_trace.specs.Trace.{Trace}
-use Rattle.stream_trace.proofs.Traced.{traced}
-use Rattle.c_calls.specs.Calls.{Deframed, Finished, Read, Answers, Moves, Takes, Finishes, CEvent, deframe, finish, CTrace, progressOf, endOf, eventOf, CNaming, CNamed, Codes, Rows, Numbers, ReadNext, ReadEach, readOf, readAll, CFaithful}
+use Rattle.stream_trace.specs.Trace.{Trace, EachFrame, ofEach}
+use Rattle.stream_trace.proofs.Traced.{traced, each-frame}
+use Rattle.c_calls.specs.Calls.{Deframed, Finished, Read, Answers, Moves, Takes, Finishes, CEvent, deframe, finish, CTrace, progressOf, endOf, eventOf, CNaming, ReadAsNamed, readAsNamed, CFaithful}
 use Rattle.c_calls.proofs.Told.{progress-back, end-back}
 
 -- the numbers of each part of an answer, put together, are the answer
@@ -55,41 +54,25 @@ as-traced held error buffer (deframe piece d ∷ events) t =
     ((step-is held error buffer piece d (t .0 .0) (t .0 .1) (t .0 .2), t .0 .2 .1), as-traced (d .held) (d .error) (d .buffer) events (t .1))
 as-traced held error buffer (finish f ∷ events) t = (end-is held error buffer f (t .0), as-traced held error buffer events (t .1))
 
--- ---- the readings are those of the frames as they stood in the buffer
-all-read : (c : CNamed) (frame : List ℕ) (x : Read)
-    → Codes (c .kind) frame (c .lent) x → Rows (c .kind) frame (c .lent) x → Numbers (c .kind) frame (c .lent) (c .numbers) x → x ≡ readOf c frame
-all-read c frame x code rows numbers =
-    ap (λ (n : ℕ). record { code = n; rows = x .rows; numbers = x .numbers }) code
-    ∙ ap (λ (l : List ℕ). record { code = readOf c frame .code; rows = l; numbers = x .numbers }) rows
-    ∙ ap (λ (l : List ℕ). record { code = readOf c frame .code; rows = readOf c frame .rows; numbers = l }) numbers
-
-next-read : (named : CNaming) (n : ℕ) (progress : Progress) (buffer : List ℕ) (frames : List (List ℕ)) (Later : ℕ → List Read → Type 0)
-    → ((m : ℕ) (ys : List Read) → Later m ys → ys ≡ readAll named m frames)
-    → (xs : List Read) → ReadNext named n progress buffer Later xs → xs ≡ readAll named n (frameIn progress buffer ++ frames)
-next-read named n (Frame size) buffer frames Later h [] e = absurd e
-next-read named n (Frame size) buffer frames Later h (x ∷ xs) e =
-    ap (λ (y : Read). y ∷ xs) (all-read (named n) (take size buffer) x (e .0 .0) (e .0 .1) (e .0 .2))
-    ∙ ap (λ (ys : List Read). readOf (named n) (take size buffer) ∷ ys) (h (suc n) xs (e .1))
-next-read named n NeedMore buffer frames Later h xs e = h n xs e
-next-read named n (Refused code) buffer frames Later h xs e = h n xs e
-
-each-read : (named : CNaming) (events : List CEvent) (n : ℕ) (xs : List Read) → ReadEach named n events xs → xs ≡ readAll named n (framesOf (map eventOf events))
-each-read named [] n xs e = e
-each-read named (deframe piece d ∷ events) n xs e =
-    next-read named n (progressOf (d .code) (d .size)) (d .buffer) (framesOf (map eventOf events)) (λ m ys. ReadEach named m events ys) (each-read named events) xs e
-each-read named (finish f ∷ events) n xs e = each-read named events n xs e
+-- ---- a contract that gives each number of a reading gives all of it
+all-read : (named : CNaming) (n : ℕ) (frame : List ℕ) (x : Read) → ReadAsNamed named n frame x → x ≡ readAsNamed named n frame
+all-read named n frame x e =
+    let y = readAsNamed named n frame in
+    ap (λ (c : ℕ). record { code = c; rows = x .rows; numbers = x .numbers }) (e .0)
+    ∙ ap (λ (l : List ℕ). record { code = y .code; rows = l; numbers = x .numbers }) (e .1)
+    ∙ ap (λ (l : List ℕ). record { code = y .code; rows = y .rows; numbers = l }) (e .2)
 
 pub c-faithful : (named : CNaming) (bytes buffer : List ℕ) (events : List CEvent) (readings : List Read)
-    → maxFrame ≤ length buffer → CTrace 0 0 buffer events → Offered false bytes (map eventOf events) → ReadEach named 0 events readings
+    → maxFrame ≤ length buffer → CTrace 0 0 buffer events → Offered false bytes (map eventOf events) → EachFrame (ReadAsNamed named) 0 (map eventOf events) readings
     → CFaithful named bytes events readings
 c-faithful named bytes buffer events readings big trace offered reads =
     let es = map eventOf events in
     let made = traced fresh buffer es (as-traced 0 0 buffer events trace) in
     let offered-run = subst (λ (l : List Event). Offered false bytes l) (made .1) offered in
     let stream = subst (λ (l : List Event). Faithful bytes l) (sym (made .1)) (faithful (made .0) bytes buffer big offered-run) in
-    let read-all = each-read named events 0 readings reads ∙ ap (readAll named 0) (stream .frames) in
+    let read-all = each-frame (ReadAsNamed named) (readAsNamed named) (all-read named) es 0 readings reads ∙ ap (ofEach (readAsNamed named) 0) (stream .frames) in
     record {
       stream = stream;
       readings-are = read-all;
-      all = λ taken. read-all ∙ ap (λ (u : Uncut). readAll named 0 (u .frames)) (stream .all taken);
+      all = λ taken. read-all ∙ ap (λ (u : Uncut). ofEach (readAsNamed named) 0 (u .frames)) (stream .all taken);
     }

@@ -1,11 +1,11 @@
 -- What a caller in C sees of a list of calls of `trpc_deframe`, `trpc_finish` and `trpc_read`, where each gives what its contract ensures. The numbers are read as
 -- include/bekurapi.h says.
-use Prim.Native.Nat.{ℕ, suc}
+use Prim.Native.Nat.{ℕ}
 use mathlib.Core.Path.{_≡_}
 use mathlib.Core.Logic.{_⊎_}
 use mathlib.Core.Bool.{cond}
 use mathlib.Core.List.{List, [], _∷_, map}
-use lib.ListN.{length, take}
+use lib.ListN.{length}
 use lib.Dec.{eqb}
 use Rattle.frame.specs.Deframe.{ended}
 use Rattle.frame.specs.Stream.{uncut}
@@ -15,6 +15,7 @@ use Rattle.frame.specs.declared.Progress.the-variants.{Frame, NeedMore, Refused
 use Rattle.frame.specs.declared.End.{End}
 use Rattle.frame.specs.declared.End.the-variants as end
 use Rattle.message.specs.Spans.{spansOf}
+use Rattle.stream_trace.specs.Trace.{ofEach}
 use Rattle.bekurapi.specs.Answers.{stateOf, deframedFrom, progressError, progressSize, endError, endShort, recordError}
 use Rattle.bekurapi.specs.Kinds.{readAs}
 use Rattle.bekurapi.specs.Numbers.{numbersOf, overlaid}
@@ -112,41 +113,26 @@ pub record CNamed : Type 0 where
 abbrev pub CNaming : Type 0
 CNaming = ℕ → CNamed
 
--- a whole frame was read as it stood in the buffer; `n` frames came before
-abbrev pub ReadNext : CNaming → ℕ → Progress → (buffer : List ℕ) → (later : ℕ → List Read → Type 0) → List Read → Type 0
-ReadNext named n (Frame size) buffer later [] = ⊥
-ReadNext named n (Frame size) buffer later (x ∷ xs) =
-    (Codes (named n .kind) (take size buffer) (named n .lent) x × Rows (named n .kind) (take size buffer) (named n .lent) x
-    × Numbers (named n .kind) (take size buffer) (named n .lent) (named n .numbers) x)
-    × later (suc n) xs
-ReadNext named n NeedMore buffer later xs = later n xs
-ReadNext named n (Refused code) buffer later xs = later n xs
+-- a reading: a call of `trpc_read` with what is named for the frame
+abbrev pub ReadAsNamed : CNaming → ℕ → (frame : List ℕ) → Read → Type 0
+ReadAsNamed named n frame x =
+    Codes (named n .kind) frame (named n .lent) x × Rows (named n .kind) frame (named n .lent) x
+    × Numbers (named n .kind) frame (named n .lent) (named n .numbers) x
 
--- each whole frame, before the next call of `trpc_deframe`
-abbrev pub ReadEach : CNaming → ℕ → List CEvent → List Read → Type 0
-ReadEach named n [] xs = xs ≡ []
-ReadEach named n (deframe piece d ∷ events) xs =
-    ReadNext named n (progressOf (d .code) (d .size)) (d .buffer) (λ m ys. ReadEach named m events ys) xs
-ReadEach named n (finish f ∷ events) xs = ReadEach named n events xs
-
--- "read by demand 2 as its kind with its row numbers", as numbers: what `trpc_read` gives of a frame, and of frames of which the first has number n
-abbrev pub readOf : CNamed → (frame : List ℕ) → Read
-readOf c frame =
+-- "read by demand 2 as its kind with its row numbers", as numbers: what `trpc_read` gives of a frame
+abbrev pub readAsNamed : CNaming → ℕ → (frame : List ℕ) → Read
+readAsNamed named n frame =
     record {
-      code = recordError (readAs (c .kind) frame (c .lent) .answer);
-      rows = readAs (c .kind) frame (c .lent) .rows;
-      numbers = overlaid (numbersOf (spansOf (readAs (c .kind) frame (c .lent)) (length frame))) (c .numbers);
+      code = recordError (readAs (named n .kind) frame (named n .lent) .answer);
+      rows = readAs (named n .kind) frame (named n .lent) .rows;
+      numbers = overlaid (numbersOf (spansOf (readAs (named n .kind) frame (named n .lent)) (length frame))) (named n .numbers);
     }
-
-abbrev pub readAll : CNaming → ℕ → List (List ℕ) → List Read
-readAll named n [] = []
-readAll named n (frame ∷ frames) = readOf (named n) frame ∷ readAll named (suc n) frames
 
 -- ---- the statement: what holds of the calls and their readings, where the pieces come from `bytes`
 pub record CFaithful (named : CNaming) (bytes : List ℕ) (events : List CEvent) (readings : List Read) : Type 0 where
   -- frames, what each call answered and took, that the frames tile the bytes taken, the verdict and its finality
   pub stream : Faithful bytes (map eventOf events)
   -- the readings are those of the frames of the uncut reading of the bytes taken
-  pub readings-are : readings ≡ readAll named 0 (uncut (takenOf (map eventOf events)) .frames)
+  pub readings-are : readings ≡ ofEach (readAsNamed named) 0 (uncut (takenOf (map eventOf events)) .frames)
   -- "and of all bytes once all are taken or a header is refused"
-  pub all : (takenOf (map eventOf events) ≡ bytes) ⊎ ((code : ℕ) × RefusedBy code (map eventOf events)) → readings ≡ readAll named 0 (uncut bytes .frames)
+  pub all : (takenOf (map eventOf events) ≡ bytes) ⊎ ((code : ℕ) × RefusedBy code (map eventOf events)) → readings ≡ ofEach (readAsNamed named) 0 (uncut bytes .frames)

@@ -9,11 +9,11 @@
 use Prim.Native.Nat.{ℕ, suc, _≤_}
 use mathlib.Core.Path.{_≡_, refl, ap, sym, subst, _∙_}
 use mathlib.Core.Bool.{false}
-use mathlib.Core.List.{List, [], _∷_}
+use mathlib.Core.List.{List, [], _∷_, _++_}
 use lib.ListN.{length, take}
 use Rattle.frame.specs.Header.{maxFrame}
 use Rattle.frame.specs.Deframe.{Out, fresh, deframed}
-use Rattle.frame.specs.Calls.{Call, push, finish, pushWrong, finishWrong, Event, pushed, finished, pushedWrong, finishedWrong, run, Offered}
+use Rattle.frame.specs.Calls.{Call, push, finish, pushWrong, finishWrong, Event, pushed, finished, pushedWrong, finishedWrong, run, Offered, frameIn, framesOf}
 use Rattle.frame.specs.declared.Deframer.{Deframer}
 use Rattle.frame.specs.declared.Step.{Step}
 use Rattle.frame.specs.declared.Progress.{Progress}
@@ -22,9 +22,9 @@ use Rattle.frame.specs.declared.End.{End}
 use Rattle.message.specs.Frames.{Reading, readFrame}
 use Rattle.message.specs.declared.Kind.{Kind}
 use Rattle.message.specs.declared.Record.{Record}
-use Rattle.reader.specs.Stream.{Naming, readOne, readingsOf, ReadFaithfully}
+use Rattle.reader.specs.Stream.{Naming, readEach, ReadFaithfully}
 use Rattle.reader.proofs.FaithfulReading.{read-faithfully}
-use Rattle.stream_trace.specs.Trace.{Deframes, Reads, Trace, ReadNext, ReadEach, TracedFaithfully}
+use Rattle.stream_trace.specs.Trace.{Deframes, Reads, Trace, NextFrame, EachFrame, ofEach, ReadAsNamed, TracedFaithfully}
 
 -- a contract that gives each part of an answer gives all of it
 all-deframed : (state : Deframer) (buffer piece : List ℕ) (o : Out) → Deframes state buffer piece o → o ≡ deframed state buffer piece
@@ -67,30 +67,42 @@ traced state buffer (finishedWrong s b e ∷ events) t =
       ap (λ (es : List Event). finishedWrong s b e ∷ es) (later .1) ∙ ap (λ (x : End). finishedWrong s b x ∷ run state buffer (later .0)) (t .0),
     )
 
--- the readings are those of the frames as they stood in the buffer
-next-read : (named : Naming) (n : ℕ) (progress : Progress) (buffer : List ℕ) (Later : ℕ → List Reading → Type 0) (later : ℕ → List Reading)
-    → ((m : ℕ) (ys : List Reading) → Later m ys → ys ≡ later m)
-    → (xs : List Reading) → ReadNext named n progress buffer Later xs → xs ≡ readOne named n progress buffer later
-next-read named n (Frame size) buffer Later later h [] e = absurd e
-next-read named n (Frame size) buffer Later later h (x ∷ xs) e =
-    ap (λ (y : Reading). y ∷ xs) (all-read (named n .kind) (take size buffer) (named n .lent) x (e .0))
-    ∙ ap (λ (ys : List Reading). readFrame (named n .kind) (take size buffer) (named n .lent) ∷ ys) (h (suc n) xs (e .1))
-next-read named n NeedMore buffer Later later h xs e = h n xs e
-next-read named n (Refused code) buffer Later later h xs e = h n xs e
+-- what is made of each frame as it stood in the buffer is what is made of the frames
+module _ {R : Type 0} (P : ℕ → (frame : List ℕ) → R → Type 0) (f : ℕ → (frame : List ℕ) → R) (only : (n : ℕ) (frame : List ℕ) (x : R) → P n frame x → x ≡ f n frame) where
+  next-frame : (n : ℕ) (progress : Progress) (buffer : List ℕ) (frames : List (List ℕ)) (Later : ℕ → List R → Type 0)
+      → ((m : ℕ) (ys : List R) → Later m ys → ys ≡ ofEach f m frames)
+      → (xs : List R) → NextFrame P n progress buffer Later xs → xs ≡ ofEach f n (frameIn progress buffer ++ frames)
+  next-frame n (Frame size) buffer frames Later h [] e = absurd e
+  next-frame n (Frame size) buffer frames Later h (x ∷ xs) e =
+      ap (λ (y : R). y ∷ xs) (only n (take size buffer) x (e .0)) ∙ ap (λ (ys : List R). f n (take size buffer) ∷ ys) (h (suc n) xs (e .1))
+  next-frame n NeedMore buffer frames Later h xs e = h n xs e
+  next-frame n (Refused code) buffer frames Later h xs e = h n xs e
 
-each-read : (named : Naming) (events : List Event) (n : ℕ) (xs : List Reading) → ReadEach named n events xs → xs ≡ readingsOf named n events
-each-read named [] n xs e = e
-each-read named (pushed piece o ∷ events) n xs e =
-    next-read named n (o .step .progress) (o .buffer) (λ m ys. ReadEach named m events ys) (λ m. readingsOf named m events) (each-read named events) xs e
-each-read named (finished f ∷ events) n xs e = each-read named events n xs e
-each-read named (pushedWrong s b o ∷ events) n xs e = each-read named events n xs e
-each-read named (finishedWrong s b f ∷ events) n xs e = each-read named events n xs e
+  pub each-frame : (events : List Event) (n : ℕ) (xs : List R) → EachFrame P n events xs → xs ≡ ofEach f n (framesOf events)
+  each-frame [] n xs e = e
+  each-frame (pushed piece o ∷ events) n xs e =
+      next-frame n (o .step .progress) (o .buffer) (framesOf events) (λ m ys. EachFrame P m events ys) (each-frame events) xs e
+  each-frame (finished g ∷ events) n xs e = each-frame events n xs e
+  each-frame (pushedWrong s b o ∷ events) n xs e = each-frame events n xs e
+  each-frame (finishedWrong s b g ∷ events) n xs e = each-frame events n xs e
+
+-- the uncut reading makes a reading of each frame
+abbrev readingAsNamed : Naming → ℕ → (frame : List ℕ) → Reading
+readingAsNamed named n frame = readFrame (named n .kind) frame (named n .lent)
+
+read-each : (named : Naming) (n : ℕ) (frames : List (List ℕ)) → ofEach (readingAsNamed named) n frames ≡ readEach named n frames
+read-each named n [] = refl
+read-each named n (frame ∷ frames) = ap (λ (xs : List Reading). readingAsNamed named n frame ∷ xs) (read-each named (suc n) frames)
 
 pub traced-faithfully : (named : Naming) (bytes buffer : List ℕ) (events : List Event) (readings : List Reading)
-    → maxFrame ≤ length buffer → Trace fresh buffer events → Offered false bytes events → ReadEach named 0 events readings
+    → maxFrame ≤ length buffer → Trace fresh buffer events → Offered false bytes events → EachFrame (ReadAsNamed named) 0 events readings
     → TracedFaithfully named bytes events readings
 traced-faithfully named bytes buffer events readings big trace offered reads =
     let made = traced fresh buffer events trace in
     let offered-run = subst (λ (es : List Event). Offered false bytes es) (made .1) offered in
     let stream = subst (λ (es : List Event). ReadFaithfully named bytes es) (sym (made .1)) (read-faithfully named (made .0) bytes buffer big offered-run) in
-    record { stream = stream; readings-are = each-read named events 0 readings reads ∙ stream .readings }
+    let made-of = each-frame (ReadAsNamed named) (readingAsNamed named) (λ n frame x e. all-read (named n .kind) frame (named n .lent) x e) events 0 readings reads in
+    record {
+      stream = stream;
+      readings-are = made-of ∙ read-each named 0 (framesOf events) ∙ ap (readEach named 0) (stream .stream .frames);
+    }

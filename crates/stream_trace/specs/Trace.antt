@@ -45,21 +45,30 @@ Trace state buffer (finished e ∷ events) = Finishes state buffer e × Trace st
 Trace state buffer (pushedWrong s b o ∷ events) = ((piece : List ℕ) × Deframes s b piece o) × Trace state buffer events
 Trace state buffer (finishedWrong s b e ∷ events) = Finishes s b e × Trace state buffer events
 
--- ---- the readings
--- a whole frame was read as it stood in the buffer, as its kind and with its row numbers; `n` frames came before
-abbrev pub ReadNext : Naming → ℕ → Progress → (buffer : List ℕ) → (later : ℕ → List Reading → Type 0) → List Reading → Type 0
-ReadNext named n (Frame size) buffer later [] = ⊥
-ReadNext named n (Frame size) buffer later (x ∷ xs) = Reads (named n .kind) (take size buffer) (named n .lent) x × later (suc n) xs
-ReadNext named n NeedMore buffer later xs = later n xs
-ReadNext named n (Refused code) buffer later xs = later n xs
+-- ---- what is made of each whole frame
+-- One thing x of each, with P, as the frame stood in the buffer, by the frame's number; `n` frames came before.
+abbrev pub NextFrame : {R : Type 0} → (P : ℕ → (frame : List ℕ) → R → Type 0) → ℕ → Progress → (buffer : List ℕ) → (later : ℕ → List R → Type 0) → List R → Type 0
+NextFrame P n (Frame size) buffer later [] = ⊥
+NextFrame P n (Frame size) buffer later (x ∷ xs) = P n (take size buffer) x × later (suc n) xs
+NextFrame P n NeedMore buffer later xs = later n xs
+NextFrame P n (Refused code) buffer later xs = later n xs
 
--- each whole frame, before the next call of the deframer
-abbrev pub ReadEach : Naming → ℕ → List Event → List Reading → Type 0
-ReadEach named n [] xs = xs ≡ []
-ReadEach named n (pushed piece o ∷ events) xs = ReadNext named n (o .step .progress) (o .buffer) (λ m ys. ReadEach named m events ys) xs
-ReadEach named n (finished e ∷ events) xs = ReadEach named n events xs
-ReadEach named n (pushedWrong s b o ∷ events) xs = ReadEach named n events xs
-ReadEach named n (finishedWrong s b e ∷ events) xs = ReadEach named n events xs
+-- of all frames, of each before the next call of the deframer
+abbrev pub EachFrame : {R : Type 0} → (P : ℕ → (frame : List ℕ) → R → Type 0) → ℕ → List Event → List R → Type 0
+EachFrame P n [] xs = xs ≡ []
+EachFrame P n (pushed piece o ∷ events) xs = NextFrame P n (o .step .progress) (o .buffer) (λ m ys. EachFrame P m events ys) xs
+EachFrame P n (finished e ∷ events) xs = EachFrame P n events xs
+EachFrame P n (pushedWrong s b o ∷ events) xs = EachFrame P n events xs
+EachFrame P n (finishedWrong s b e ∷ events) xs = EachFrame P n events xs
+
+-- the same of a list of frames, of which the first has number n
+abbrev pub ofEach : {R : Type 0} → (f : ℕ → (frame : List ℕ) → R) → ℕ → List (List ℕ) → List R
+ofEach f n [] = []
+ofEach f n (frame ∷ frames) = f n frame ∷ ofEach f (suc n) frames
+
+-- a reading: a call of `read` with the kind and the row numbers named for the frame
+abbrev pub ReadAsNamed : Naming → ℕ → (frame : List ℕ) → Reading → Type 0
+ReadAsNamed named n frame x = Reads (named n .kind) frame (named n .lent) x
 
 -- ---- the statement: what holds of a trace and its readings, where the pieces come from `bytes`
 pub record TracedFaithfully (named : Naming) (bytes : List ℕ) (events : List Event) (readings : List Reading) : Type 0 where
