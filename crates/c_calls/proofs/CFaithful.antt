@@ -5,7 +5,7 @@
 -- what its contract ensures, then frames, what each call answered and took, and the end are those of the uncut reading of the bytes taken, the numbers that the readings gave are those
 -- of its frames, and both are those of all bytes once all are taken or a header is refused. Nothing else is known of a call (`proofs/Contracts`).
 -- Not promised: anything of a buffer, a count or a code that the caller changes between two calls, or of a frame that is read after the next call; nor of the declarations in
--- include/bekurapi.h, which the tests compare.
+-- include/bekurapi.h, which the tests compare. Calls with another state or another buffer are another stream's: `stream_trace` has them among the others.
 -- Ruled out: an answer whose numbers could mean two things, as a frame of size 0, and a deframer that gives another caller's count.
 use Prim.Native.Nat.{ℕ, _≤_}
 use mathlib.Core.Path.{_≡_, ap, sym, subst, _∙_}

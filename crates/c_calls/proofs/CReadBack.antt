@@ -35,6 +35,7 @@ use Rattle.round_trip.specs.Meaning.{Meaning, says, refused, saying, meaning, f
 use Rattle.round_trip.specs.Statement.{ReadsBack}
 use Rattle.round_trip.proofs.RoundTrip.{round-trip}
 use Rattle.c_calls.specs.Calls.{Read, Codes, Rows, Numbers}
+use Rattle.c_calls.proofs.Told.{choose}
 use Rattle.c_calls.specs.RoundTrip.{Written, Writes, Words, partAt, CReadsBack}
 
 -- ---- the record of a kind from its numbers
@@ -124,18 +125,18 @@ abbrev Coded : Encoded → Type 0
 Coded (Frame size) = Unit {0}
 Coded (Refused code) = code ≡ 0 → ⊥
 
+abbrev CodedIn : Writing → Type 0
+CodedIn w = Coded (w .answer)
+
 framed : (a : Encoded) → Coded a → errorOf a ≡ 0 → a ≡ Frame (countOf a)
 unfolding errorOf countOf
 framed (Frame size) c e = refl
 framed (Refused code) c e = absurd (c e)
 
 coded-by : (r : Record) (source numbers body output : List ℕ) → Coded (writtenBy r source numbers body output .answer)
-coded-by r source numbers body output = by (eqb (writeError r source numbers body (length output)) 0) refl
-  where
-    by : (b : Bool) → eqb (writeError r source numbers body (length output)) 0 ≡ b
-        → Coded (cond b (wrote (frameOf r source numbers body) output) (refusedWith (writeError r source numbers body (length output)) output) .answer)
-    by true e = tt
-    by false e = eqb-false (writeError r source numbers body (length output)) 0 e
+coded-by r source numbers body output =
+    let error = writeError r source numbers body (length output) in
+    choose CodedIn (eqb error 0) (wrote (frameOf r source numbers body) output) (refusedWith error output) (λ e. tt) (λ n. eqb-false error 0 n)
 
 module _ (kind : ℕ) (r : Record) (source numbers body output : List ℕ) where
   -- the number names a kind

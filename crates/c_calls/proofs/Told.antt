@@ -19,6 +19,11 @@ use Rattle.frame.proofs.Advance.{next-short, next-bad, next-part, next-whole, S
 use Rattle.bekurapi.specs.Answers.{progressError, progressSize, endError, endShort}
 use Rattle.c_calls.specs.Calls.{progressOf, endOf}
 
+-- what holds of both cases of a test, each by what the test was, holds of its choice
+pub choose : {A : Type 0} (P : A → Type 0) (b : Bool) (x y : A) → (b ≡ true → P x) → (b ≡ false → P y) → P (cond b x y)
+choose P true x y f g = f refl
+choose P false x y f g = g refl
+
 -- ---- a call of the deframer
 abbrev Told : Progress → Type 0
 Told (Frame size) = size ≡ 0 → ⊥
@@ -40,17 +45,16 @@ told-next s = go (shape s)
     go (part p e t) = rw (next-part s p e t) tt
     go (whole p e t) = rw (next-whole s p e t) (λ z. absurd (omega (arith, z, good-total (take 16 s) e .0)))
 
-choose : (b : Bool) (x y : Out) → (b ≡ true → Told (x .step .progress)) → (b ≡ false → Told (y .step .progress)) → Told (cond b x y .step .progress)
-choose true x y f g = f refl
-choose false x y f g = g refl
+abbrev ToldBy : Out → Type 0
+ToldBy o = Told (o .step .progress)
 
 told-call : (st : Deframer) (buffer piece : List ℕ) → Told (deframed st buffer piece .step .progress)
 unfolding deframed
 told-call st buffer piece =
-    choose (ltb (length buffer) maxFrame) _ _ (λ e z. absurd (omega (arith, z)))
+    choose ToldBy (ltb (length buffer) maxFrame) _ _ (λ e z. absurd (omega (arith, z)))
     (λ e.
-    choose (knownOf st buffer) _ _
-    (λ k. choose (eqb (st .error) 0) _ _ (λ z. told-next (stream (st .held) buffer piece)) (λ n. eqb-false (st .error) 0 n))
+    choose ToldBy (knownOf st buffer) _ _
+    (λ k. choose ToldBy (eqb (st .error) 0) _ _ (λ z. told-next (stream (st .held) buffer piece)) (λ n. eqb-false (st .error) 0 n))
     (λ k z. absurd (omega (arith, z))))
 
 pub progress-back : (st : Deframer) (buffer piece : List ℕ)
@@ -69,17 +73,13 @@ tells-back end.Clean t = refl
 tells-back (end.Short count) t = rw (ne-eqb count 0 t) refl
 tells-back (end.Refused code) t = rw (ne-eqb code 0 t) refl
 
-choose-end : (b : Bool) (x y : End) → (b ≡ true → TellsEnd x) → (b ≡ false → TellsEnd y) → TellsEnd (cond b x y)
-choose-end true x y f g = f refl
-choose-end false x y f g = g refl
-
 tells-end : (st : Deframer) (buffer : List ℕ) → TellsEnd (ended st buffer)
 unfolding ended
 tells-end st buffer =
-    choose-end (ltb (length buffer) maxFrame) _ _ (λ e z. absurd (omega (arith, z)))
+    choose TellsEnd (ltb (length buffer) maxFrame) _ _ (λ e z. absurd (omega (arith, z)))
     (λ e.
-    choose-end (knownOf st buffer) _ _
-    (λ k. choose-end (eqb (st .error) 0) _ _ (λ z. choose-end (eqb (st .held) 0) _ _ (λ c. tt) (λ n. eqb-false (st .held) 0 n)) (λ n. eqb-false (st .error) 0 n))
+    choose TellsEnd (knownOf st buffer) _ _
+    (λ k. choose TellsEnd (eqb (st .error) 0) _ _ (λ z. choose TellsEnd (eqb (st .held) 0) _ _ (λ c. tt) (λ n. eqb-false (st .held) 0 n)) (λ n. eqb-false (st .error) 0 n))
     (λ k z. absurd (omega (arith, z))))
 
 pub end-back : (st : Deframer) (buffer : List ℕ) → endOf (endError (ended st buffer)) (endShort (ended st buffer)) ≡ ended st buffer
