@@ -1,9 +1,8 @@
--- What the numbers of a record say is the record: `numbers-back`, for every record. So what `trpc_read` gave can be handed to `trpc_write`: `read-back`, for
--- every frame, kind and lent row numbers. Neither says what the writer makes of the record. They rule out an int32 that comes back unsigned, and a field
--- that is stored at one place and looked for at another.
+-- What the numbers of a record say is the record: `numbers-back`, for every record. So what a reader gave can be handed to the writer of
+-- its kind: `read-back`, for every frame, kind and lent row numbers. Neither says what the writer makes of the record. They rule out an
+-- int32 that comes back unsigned, and a field that is stored at one place and looked for at another.
 use Prim.Native.Nat.{ℕ, _-_, _%_, _^_, _<_}
-use mathlib.Core.Path.{_≡_, refl, sym, ap, _∙_}
-use mathlib.Core.Logic.{_⊎_, inl, inr}
+use mathlib.Core.Path.{_≡_, refl, ap, subst, _∙_}
 use mathlib.Core.Bool.{Bool, true, false, not, cond, _&&_}
 use mathlib.Core.List.{List, []}
 use native.Mathlib.Omega.{arith}
@@ -11,8 +10,7 @@ use borrow.Author.Tests.{ltb-true, ltb-false}
 use lib.Dec.{eqb, ltb, leb}
 use lib.IntN.{ℤ, pos, negsuc}
 use lib.Signed.{mag}
-use lib.ListN.{length, take, getD, replicate}
-use lib.Seq.{take-at}
+use lib.ListN.{length, take, getD}
 use Rattle.wire.specs.Varint.{twosComplement, lowI32}
 use Rattle.field_writer.specs.Writing.{signExtended}
 use Rattle.field_writer.proofs.ReadBack.{signed-back}
@@ -20,16 +18,17 @@ use Rattle.frame.specs.Header.{headerError, totalOf, idOf}
 use Rattle.decoder.specs.Rows.{rowNumbers, laidOut}
 use Rattle.decoder.specs.Fields.{Result, ok, refused, readMessage}
 use Rattle.message.specs.Records.{schemaOf, recordOf, attachmentSizeOf}
-use Rattle.message.specs.Frames.{Reading, headerOf, bodyOf, lastOf, kindFits, untouched, finished, answered, readFrame}
+use Rattle.message.specs.Frames.{Reading, headerOf, bodyOf, lastBytes, kindFits, refusedUntouched, withAttachment, answered, readFrame}
 use Rattle.message.specs.Spans.{spansOf}
 use Rattle.message.specs.declared.Kind.{Kind}
 use Rattle.message.specs.declared.Kind.the-variants as kinds
 use Rattle.message.specs.declared.Record.{Record}
 use Rattle.message.specs.declared.Record.the-variants as records
+use Rattle.message.specs.declared.Answer.{Answer}
+use Rattle.message.specs.declared.Answer.the-variants as answers
 use Rattle.message.specs.declared.Located.{Located}
 use Rattle.outgoing.specs.Content.{bits, mark, kindOf, recordId, rowCount, slotsOf}
-use Rattle.bekurapi.specs.Kinds.{isKind, kindAt, noKindError, readAs}
-use Rattle.bekurapi.specs.Numbers.{numbersOf, padded, recordFrom, Sound}
+use Rattle.bekurapi.specs.Numbers.{answerId, answerRows, answerSlots, numbersOf, recordFrom, Sound}
 
 -- "int32 the same as two's complement"
 signed-bits : (z : ℤ) → mag z < 2 ^ 31 → lowI32 (bits z) ≡ z
@@ -49,27 +48,30 @@ record-back (records.Init r) h =
     rw (mark-back (r .«request_meta» .present), mark-back (r .«response_meta» .present), signed-bits (r .«response_meta» .ret) h) refl
 record-back (records.Data r) h = refl
 record-back (records.Feedback r) h = refl
-record-back (records.Close r) h = rw (signed-bits (r .«close_type») (h .0), signed-bits (r .ret) (h .1), signed-bits (r .«func_ret») (h .2)) refl
-record-back (records.Refused code) h = absurd h
+record-back (records.Close r) h =
+    rw (signed-bits (r .«close_type») (h .0), signed-bits (r .ret) (h .1), signed-bits (r .«func_ret») (h .2)) refl
 
-pub slot-count : (r : Record) → length (slotsOf r) ≡ 16
+record-slots : (r : Record) → length (slotsOf r) ≡ 16
 unfolding slotsOf
-slot-count (records.Request r) = refl
-slot-count (records.Response r) = refl
-slot-count (records.Init r) = refl
-slot-count (records.Data r) = refl
-slot-count (records.Feedback r) = refl
-slot-count (records.Close r) = refl
-slot-count (records.Refused code) = refl
+record-slots (records.Request r) = refl
+record-slots (records.Response r) = refl
+record-slots (records.Init r) = refl
+record-slots (records.Data r) = refl
+record-slots (records.Feedback r) = refl
+record-slots (records.Close r) = refl
 
-pub all-there : (l : List ℕ) → length l ≡ 24 → padded l ≡ l
-unfolding padded
-all-there l e = take-at l (replicate 24 0) 24 e
+pub slot-count : (a : Answer) → length (answerSlots a) ≡ 16
+unfolding answerSlots
+slot-count (answers.Read r) = record-slots r
+slot-count (answers.Refused code) = refl
 
-pub numbers-back : (n : ℕ) (l : Located) → kindAt n ≡ kindOf (l .«record») → Sound (l .«record») → recordFrom n (numbersOf l) ≡ l .«record»
-numbers-back n l k h =
-    let count : length (numbersOf l) ≡ 24 = rw (slot-count (l .«record»)) refl in
-    rw (all-there (numbersOf l) count, k) (record-back (l .«record») h)
+of-read : (r : Record)
+    → (answerId (answers.Read r) ≡ recordId r) × (answerRows (answers.Read r) ≡ rowCount r) × (answerSlots (answers.Read r) ≡ slotsOf r)
+unfolding answerId answerRows answerSlots
+of-read r = (refl, refl, refl)
+
+pub numbers-back : (l : Located) (r : Record) → l .answer ≡ answers.Read r → Sound r → recordFrom (kindOf r) (numbersOf l) ≡ r
+numbers-back l r e h = rw (e, of-read r .0, of-read r .1, of-read r .2) (record-back r h)
 
 -- ---- the record of a frame
 small : (n : ℕ) → n < 2 ^ 32 → mag (twosComplement n) < 2 ^ 31
@@ -83,18 +85,19 @@ small n h = by (ltb n (2 ^ 31)) refl
 pub low : (v : ℕ) → mag (lowI32 v) < 2 ^ 31
 low v = small (v % 2 ^ 32) (omega arith)
 
--- a record that was read is sound and of its kind, or it was refused
-abbrev Kept : Kind → Record → Type 0
-Kept kind r = (Sound r × (kindOf r ≡ kind)) ⊎ ((code : ℕ) × (r ≡ records.Refused code))
+-- a record that was read is sound and of its kind
+abbrev Kept : Kind → Answer → Type 0
+Kept kind (answers.Read r) = Sound r × (kindOf r ≡ kind)
+Kept kind (answers.Refused code) = Unit {0}
 
-made : (kind : Kind) (id : ℕ) (slots : List ℕ) (rows : ℕ) → Kept kind (recordOf kind id slots rows)
+made : (kind : Kind) (id : ℕ) (slots : List ℕ) (rows : ℕ) → Kept kind (answers.Read (recordOf kind id slots rows))
 unfolding recordOf kindOf
-made kinds.Request id l rows = inl (tt, refl)
-made kinds.Response id l rows = inl ((low (getD l 3 0), low (getD l 4 0)), refl)
-made kinds.Init id l rows = inl (low (getD l 9 0), refl)
-made kinds.Data id l rows = inl (tt, refl)
-made kinds.Feedback id l rows = inl (tt, refl)
-made kinds.Close id l rows = inl ((low (getD l 0 0), low (getD l 1 0), low (getD l 5 0)), refl)
+made kinds.Request id l rows = (tt, refl)
+made kinds.Response id l rows = ((low (getD l 3 0), low (getD l 4 0)), refl)
+made kinds.Init id l rows = (low (getD l 9 0), refl)
+made kinds.Data id l rows = (tt, refl)
+made kinds.Feedback id l rows = (tt, refl)
+made kinds.Close id l rows = ((low (getD l 0 0), low (getD l 1 0), low (getD l 5 0)), refl)
 
 record KeptIn (kind : Kind) (x : Reading) : Type 0 where
   is : Kept kind (x .answer)
@@ -104,19 +107,19 @@ module _ (kind : Kind) where
   either true p q = p
   either false p q = q
 
-  none : (code : ℕ) (lent : List ℕ) → KeptIn kind (untouched code lent)
-  none code lent = record { is = inr (code, refl) }
+  none : (code : ℕ) (lent : List ℕ) → KeptIn kind (refusedUntouched code lent)
+  none code lent = record { is = tt }
 
   of-result : (f lent : List ℕ) (x : Result) → KeptIn kind (answered kind f lent x)
-  unfolding answered finished
+  unfolding answered withAttachment
   of-result f lent (ok st) =
       either
       (leb (attachmentSizeOf kind (st .slots)) (length (bodyOf kind f)))
       {x = record {
-        answer = recordOf kind (idOf f) (st .slots) (length (st .rows));
+        answer = answers.Read (recordOf kind (idOf f) (st .slots) (length (st .rows)));
         header = headerOf kind f;
         body = bodyOf kind f;
-        attachment = lastOf (attachmentSizeOf kind (st .slots)) (bodyOf kind f);
+        attachment = lastBytes (attachmentSizeOf kind (st .slots)) (bodyOf kind f);
         rows = laidOut (st .rows) lent;
       }}
       (record { is = made kind (idOf f) (st .slots) (length (st .rows)) })
@@ -134,16 +137,9 @@ module _ (kind : Kind) where
       (none 9 lent))
       (none (headerError (take 16 f)) lent)))
 
-kept-as : (n : ℕ) (f lent : List ℕ) → KeptIn (kindAt n) (readAs n f lent)
-unfolding readAs
-kept-as n f lent = either (kindAt n) (isKind n) (kept (kindAt n) f lent) (none (kindAt n) (noKindError f (length lent)) lent)
-
-abbrev Back : (n : ℕ) → (size : ℕ) → Reading → Type 0
-Back n size x = ((code : ℕ) → x .answer ≡ records.Refused code → ⊥) → recordFrom n (numbersOf (spansOf x size)) ≡ x .answer
-
-back : (n size : ℕ) (x : Reading) → Kept (kindAt n) (x .answer) → Back n size x
-back n size x (inl (sound, kind)) some = numbers-back n (spansOf x size) (sym kind) sound
-back n size x (inr (code, e)) some = absurd (some code e)
-
-pub read-back : (n : ℕ) (f lent : List ℕ) → Back n (length f) (readAs n f lent)
-read-back n f lent = back n (length f) (readAs n f lent) (kept-as n f lent .is)
+pub read-back : (kind : Kind) (f lent : List ℕ) (size : ℕ) (r : Record) → readFrame kind f lent .answer ≡ answers.Read r
+    → recordFrom kind (numbersOf (spansOf (readFrame kind f lent) size)) ≡ r
+read-back kind f lent size r e =
+    let is : Kept kind (answers.Read r) = subst (Kept kind) e (kept kind f lent .is) in
+    let l = spansOf (readFrame kind f lent) size in
+    subst (λ (k : Kind). recordFrom k (numbersOf l) ≡ r) (is .1) (numbers-back l r e (is .0))

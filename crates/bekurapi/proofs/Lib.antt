@@ -2,5 +2,6 @@
 pub mod Back
 -- For the proofs of this crate's functions.
 mod Copies
-mod KindLaws
 mod NumberLaws
+-- Demand 1, of every public entry
+pub mod AsksNothing

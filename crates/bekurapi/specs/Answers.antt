@@ -1,7 +1,9 @@
--- The answers about a fixed header, of the deframer, of the end of a stream and of the reader as numbers: "For an answer that is an enum, a definition gives this paper's number and values
--- for each of its cases."
+-- The answers about a fixed header, of the deframer, of the end of a stream and of the reader as numbers: "For an answer that is an enum, a
+-- definition gives this paper's number and values for each of its cases."
 use Prim.Native.Nat.{ℕ}
+use mathlib.Core.Path.{_≡_}
 use mathlib.Core.List.{List}
+use Rattle.frame.specs.Header.{parsed}
 use Rattle.frame.specs.Deframe.{Out, deframed}
 use Rattle.frame.specs.declared.FrameType.{FrameType}
 use Rattle.frame.specs.declared.FrameType.the-variants as types
@@ -13,8 +15,8 @@ use Rattle.frame.specs.declared.Progress.{Progress}
 use Rattle.frame.specs.declared.Progress.the-variants.{Frame, NeedMore, Refused}
 use Rattle.frame.specs.declared.End.{End}
 use Rattle.frame.specs.declared.End.the-variants as end
-use Rattle.message.specs.declared.Record.{Record}
-use Rattle.message.specs.declared.Record.the-variants as records
+use Rattle.message.specs.declared.Answer.{Answer}
+use Rattle.message.specs.declared.Answer.the-variants as answers
 
 -- "data type | 0 unary, 1 stream"; "stream type | 1 Init, 2 Data, 3 Feedback, 4 Close": the stream type, and 0 for unary
 unfoldable pub typeNumber : FrameType → ℕ
@@ -33,6 +35,14 @@ parsedError (headers.Refused code) = code
 unfoldable pub headerIn : Parsed → FixedHeader
 headerIn (headers.Good h) = h
 headerIn (headers.Refused code) = record { «frame_type» = types.Unary; total = 0; «header_size» = 0; id = 0 }
+
+-- so a call of `trpc_header_parse` gave the number that is returned and the four that it hands out
+pub record ParsedAs (bytes : List ℕ) (code frame-type total header-size id : ℕ) : Type 0 where
+  pub code-is : code ≡ parsedError (parsed bytes)
+  pub type-is : frame-type ≡ typeNumber (headerIn (parsed bytes) .«frame_type»)
+  pub total-is : total ≡ headerIn (parsed bytes) .total
+  pub header-size-is : header-size ≡ headerIn (parsed bytes) .«header_size»
+  pub id-is : id ≡ headerIn (parsed bytes) .id
 
 -- "The state is a count of held bytes and a refusal number (0 for none)."
 abbrev pub stateOf : (held error : ℕ) → Deframer
@@ -53,6 +63,15 @@ progressSize (Frame size) = size
 progressSize NeedMore = 0
 progressSize (Refused code) = 0
 
+-- "with it come the next state and the count taken": a call of `trpc_deframe` gave the number that is returned, and left state, buffer,
+-- count taken and the frame's size
+pub record DeframedAs (held error : ℕ) (buffer piece : List ℕ) (code held₁ error₁ : ℕ) (buffer₁ : List ℕ) (taken size : ℕ) : Type 0 where
+  pub code-is : code ≡ progressError (deframedFrom held error buffer piece .step .progress)
+  pub size-is : size ≡ progressSize (deframedFrom held error buffer piece .step .progress)
+  pub state-is : stateOf held₁ error₁ ≡ deframedFrom held error buffer piece .step .next
+  pub taken-is : taken ≡ deframedFrom held error buffer piece .step .taken
+  pub buffer-is : buffer₁ ≡ deframedFrom held error buffer piece .buffer
+
 -- "The end verdict, asked with state and buffer, is clean (nothing held), short with the count held, or the refusal."
 unfoldable pub endError : End → ℕ
 endError end.Clean = 0
@@ -65,11 +84,6 @@ endShort (end.Short count) = count
 endShort (end.Refused code) = 0
 
 -- A reading is a record or the refusal.
-unfoldable pub recordError : Record → ℕ
-recordError (records.Request r) = 0
-recordError (records.Response r) = 0
-recordError (records.Init r) = 0
-recordError (records.Data r) = 0
-recordError (records.Feedback r) = 0
-recordError (records.Close r) = 0
-recordError (records.Refused code) = code
+unfoldable pub answerError : Answer → ℕ
+answerError (answers.Read r) = 0
+answerError (answers.Refused code) = code

@@ -1,42 +1,29 @@
--- The kinds by their numbers, and a number that names none
+-- What a caller in C is given by the reader and by the writer of a kind: numbers, and what is in all that it lent
 use Prim.Native.Nat.{ℕ}
-use mathlib.Core.Bool.{Bool, cond}
+use mathlib.Core.Path.{_≡_}
 use mathlib.Core.List.{List}
-use lib.ListN.{length, take}
-use lib.Dec.{ltb, eqb}
-use Rattle.frame.specs.Header.{headerError}
-use Rattle.decoder.specs.Rows.{rowNumbers}
+use lib.ListN.{length}
 use Rattle.message.specs.declared.Kind.{Kind}
-use Rattle.message.specs.declared.Kind.the-variants as kinds
-use Rattle.message.specs.declared.Record.{Record}
-use Rattle.message.specs.Frames.{Reading, untouched, readFrame}
-use Rattle.writer.specs.Writing.{Writing, refusedWith, written}
+use Rattle.message.specs.Frames.{readFrame}
+use Rattle.message.specs.Spans.{spansOf}
+use Rattle.writer.specs.Writing.{Writing, written, errorOf, countOf}
+use Rattle.bekurapi.specs.Answers.{answerError}
+use Rattle.bekurapi.specs.Numbers.{numbersOf, recordFrom}
 
--- "which of the six kinds": 0 request, 1 response, 2 init, 3 data, 4 feedback, 5 close
-abbrev pub isKind : (number : ℕ) → Bool
-isKind n = ltb n 6
+-- "the caller of the reader names which of the six kinds it expects": a frame, read as a kind with the row numbers lent, gave the number
+-- that is returned, the row numbers and the 24 numbers of the record.
+pub record ReadAs (kind : Kind) (frame lent : List ℕ) (code : ℕ) (rows numbers : List ℕ) : Type 0 where
+  pub code-is : code ≡ answerError (readFrame kind frame lent .answer)
+  pub rows-are : rows ≡ readFrame kind frame lent .rows
+  pub numbers-are : numbers ≡ numbersOf (spansOf (readFrame kind frame lent) (length frame))
 
-unfoldable pub kindAt : (number : ℕ) → Kind
-kindAt n =
-    cond (eqb n 0) kinds.Request
-    (cond (eqb n 1) kinds.Response
-    (cond (eqb n 2) kinds.Init
-    (cond (eqb n 3) kinds.Data
-    (cond (eqb n 4) kinds.Feedback
-    kinds.Close))))
+-- what writing the record of a kind gives that is lent as 24 numbers
+abbrev pub writtenFrom : Kind → (numbers : List ℕ) → (source rows body output : List ℕ) → Writing
+writtenFrom kind numbers source rows body output = written (recordFrom kind numbers) source rows body output
 
--- No frame is of a kind that no number names: 9, "the wrong kind of frame", in its place. "Reader: 16; fewer than 16 bytes is 9; 3 to 8; 9"
-unfoldable pub noKindError : (frame : List ℕ) → (lent : ℕ) → ℕ
-noKindError f lent =
-    cond (ltb lent rowNumbers) 16
-    (cond (ltb (length f) 16) 9
-    (cond (eqb (headerError (take 16 f)) 0) 9
-    (headerError (take 16 f))))
-
--- reading a frame as the kind of a number
-unfoldable pub readAs : (number : ℕ) → (frame lent : List ℕ) → Reading
-readAs n f lent = cond (isKind n) (readFrame (kindAt n) f lent) (untouched (noKindError f (length lent)) lent)
-
--- writing the record of a number's kind; there is none of a kind that no number names, and 9 comes before all else
-unfoldable pub writtenAs : (number : ℕ) → Record → (source numbers body output : List ℕ) → Writing
-writtenAs n r source numbers body output = cond (isKind n) (written r source numbers body output) (refusedWith 9 output)
+-- "The writer takes a record, the bytes its starts refer to, its rows and a body.": it gave the number that is returned, the frame's size,
+-- and the output as it is afterwards, whole.
+pub record WrittenAs (kind : Kind) (numbers source rows body output : List ℕ) (code size : ℕ) (out : List ℕ) : Type 0 where
+  pub code-is : code ≡ errorOf (writtenFrom kind numbers source rows body output .answer)
+  pub size-is : size ≡ countOf (writtenFrom kind numbers source rows body output .answer)
+  pub output-is : out ≡ writtenFrom kind numbers source rows body output .output

@@ -1,4 +1,4 @@
 -- What a C caller sees of the library: each answer as numbers
 pub mod Answers
-pub mod Kinds
 pub mod Numbers
+pub mod Kinds

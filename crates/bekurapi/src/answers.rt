@@ -4,11 +4,12 @@ use frame::FixedHeader;
 use frame::FrameType;
 use frame::Parsed;
 use frame::Progress;
-use message::Record;
+use message::Answer;
 use writer::Encoded;
 ghost use mathlib.Core.Path.{_≡_};
 ghost use Rattle.writer.specs.Writing.{errorOf, countOf};
-ghost use Rattle.bekurapi.specs.Answers.{typeNumber, parsedError, headerIn, progressError, progressSize, endError, endShort, recordError};
+ghost use Rattle.bekurapi.specs.Answers.{typeNumber, parsedError, headerIn, progressError, progressSize};
+ghost use Rattle.bekurapi.specs.Answers.{endError, endShort, answerError};
 
 // The stream type, and 0 for unary.
 pub(crate) fn type_number(frame_type: FrameType) -> u32
@@ -87,17 +88,12 @@ pub(crate) fn end_short(end: End) -> usize
     }
 }
 
-pub(crate) fn record_error(record: Record) -> u32
-    ensures { λ r. ⌜ r ≡ recordError «record» ⌝ }
+pub(crate) fn answer_error(answer: Answer) -> u32
+    ensures { λ r. ⌜ r ≡ answerError answer ⌝ }
 {
-    match record {
-        Record::Request(_) => 0,
-        Record::Response(_) => 0,
-        Record::Init(_) => 0,
-        Record::Data(_) => 0,
-        Record::Feedback(_) => 0,
-        Record::Close(_) => 0,
-        Record::Refused(code) => code,
+    match answer {
+        Answer::Read(_) => 0,
+        Answer::Refused(code) => code,
     }
 }
 

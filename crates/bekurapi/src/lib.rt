@@ -5,15 +5,12 @@ mod answers;
 mod kinds;
 mod numbers;
 
-use answers::encoded_error;
-use answers::encoded_size;
 use answers::end_error;
 use answers::end_short;
 use answers::header_in;
 use answers::parsed_error;
 use answers::progress_error;
 use answers::progress_size;
-use answers::record_error;
 use answers::type_number;
 use frame::Deframer;
 use frame::deframe;
@@ -21,18 +18,13 @@ use frame::finish;
 use frame::parse_header;
 use kinds::read_as;
 use kinds::write_as;
-use numbers::numbers_of;
-use numbers::record_from;
-use numbers::store;
+use message::Kind;
 ghost use mathlib.Core.Path.{_≡_};
-ghost use lib.ListN.{length};
-ghost use Rattle.frame.specs.Header.{headerError, parsed};
+ghost use Rattle.frame.specs.Header.{headerError};
 ghost use Rattle.frame.specs.Deframe.{ended};
-ghost use Rattle.message.specs.Spans.{spansOf};
-ghost use Rattle.writer.specs.Writing.{errorOf, countOf};
-ghost use Rattle.bekurapi.specs.Answers.{typeNumber, parsedError, headerIn, stateOf, deframedFrom, progressError, progressSize, endError, endShort, recordError};
-ghost use Rattle.bekurapi.specs.Kinds.{readAs};
-ghost use Rattle.bekurapi.specs.Numbers.{numbersOf, overlaid, writtenFrom};
+ghost use Rattle.message.specs.declared.Kind.the-variants as kinds;
+ghost use Rattle.bekurapi.specs.Answers.{ParsedAs, stateOf, DeframedAs, endError, endShort};
+ghost use Rattle.bekurapi.specs.Kinds.{ReadAs, WrittenAs};
 
 // The error code of a fixed header: 0 where it is good, 9 where it is not 16 bytes, else 3 to 8.
 #[no_mangle]
@@ -52,11 +44,8 @@ pub extern "C" fn trpc_header_parse(
     header_size: &mut usize,
     id: &mut u32,
 ) -> u32
-    ensures { λ r. ⌜ (r ≡ parsedError (parsed (now (bytes .entry))))
-        × (now («frame_type» .exit) ≡ typeNumber (headerIn (parsed (now (bytes .entry))) .«frame_type»))
-        × (now (total .exit) ≡ headerIn (parsed (now (bytes .entry))) .total)
-        × (now («header_size» .exit) ≡ headerIn (parsed (now (bytes .entry))) .«header_size»)
-        × (now (id .exit) ≡ headerIn (parsed (now (bytes .entry))) .id) ⌝ }
+    ensures { λ r. ⌜ ParsedAs (now (bytes .entry))
+        r (now («frame_type» .exit)) (now (total .exit)) (now («header_size» .exit)) (now (id .exit)) ⌝ }
 {
     let answer = parse_header(bytes);
     let header = header_in(answer);
@@ -79,11 +68,8 @@ pub extern "C" fn trpc_deframe(
     taken: &mut usize,
     size: &mut usize,
 ) -> u32
-    ensures { λ r. ⌜ (r ≡ progressError (deframedFrom (now (held .entry)) (now (error .entry)) (now (buffer .entry)) (now (piece .entry)) .step .progress))
-        × (now (size .exit) ≡ progressSize (deframedFrom (now (held .entry)) (now (error .entry)) (now (buffer .entry)) (now (piece .entry)) .step .progress)) ⌝ }
-    ensures { λ _. ⌜ stateOf (now (held .exit)) (now (error .exit)) ≡ deframedFrom (now (held .entry)) (now (error .entry)) (now (buffer .entry)) (now (piece .entry)) .step .next ⌝ }
-    ensures { λ _. ⌜ (now (taken .exit) ≡ deframedFrom (now (held .entry)) (now (error .entry)) (now (buffer .entry)) (now (piece .entry)) .step .taken)
-        × (now (buffer .exit) ≡ deframedFrom (now (held .entry)) (now (error .entry)) (now (buffer .entry)) (now (piece .entry)) .buffer) ⌝ }
+    ensures { λ r. ⌜ DeframedAs (now (held .entry)) (now (error .entry)) (now (buffer .entry)) (now (piece .entry))
+        r (now (held .exit)) (now (error .exit)) (now (buffer .exit)) (now (taken .exit)) (now (size .exit)) ⌝ }
 {
     let state = Deframer {
         held: *held,
@@ -110,37 +96,140 @@ pub extern "C" fn trpc_finish(held: usize, error: u32, buffer: &[u8], short_by: 
     end_error(end)
 }
 
-// Reads a frame as the kind of that number. Answers the error code; the record's numbers go to the start of `record`, as many as
-// fit.
+// ---- The six readers: each reads a frame as its kind. It answers the error code, and leaves the row numbers and the 24 numbers of the
+// record and its frame's parts.
+
 #[no_mangle]
-pub extern "C" fn trpc_read(kind: u32, frame: &[u8], rows: &mut [u32], record: &mut [u32]) -> u32
-    ensures { λ r. ⌜ r ≡ recordError (readAs kind (now (frame .entry)) (now (rows .entry)) .answer) ⌝ }
-    ensures { λ _. ⌜ now (rows .exit) ≡ readAs kind (now (frame .entry)) (now (rows .entry)) .rows ⌝ }
-    ensures { λ _. ⌜ now («record» .exit) ≡ overlaid (numbersOf (spansOf (readAs kind (now (frame .entry)) (now (rows .entry))) (length (now (frame .entry))))) (now («record» .entry)) ⌝ }
+pub extern "C" fn trpc_read_request(frame: &[u8], rows: &mut [u32], record: &mut [u32; 24]) -> u32
+    ensures { λ r. ⌜ ReadAs kinds.Request (now (frame .entry)) (now (rows .entry)) r (now (rows .exit)) (now («record» .exit)) ⌝ }
 {
-    let reading = read_as(kind, frame, rows);
-    store(numbers_of(reading), record);
-    let answer = reading.record;
-    record_error(answer)
+    read_as(Kind::Request, frame, rows, record)
 }
 
-// Writes the frame of a record of the kind of that number to the start of `out`. Answers the error code; `size` is the frame's, 0
-// after a refusal.
 #[no_mangle]
-pub extern "C" fn trpc_write(
-    kind: u32,
-    record: &[u32],
+pub extern "C" fn trpc_read_response(frame: &[u8], rows: &mut [u32], record: &mut [u32; 24]) -> u32
+    ensures { λ r. ⌜ ReadAs kinds.Response (now (frame .entry)) (now (rows .entry)) r (now (rows .exit)) (now («record» .exit)) ⌝ }
+{
+    read_as(Kind::Response, frame, rows, record)
+}
+
+#[no_mangle]
+pub extern "C" fn trpc_read_init(frame: &[u8], rows: &mut [u32], record: &mut [u32; 24]) -> u32
+    ensures { λ r. ⌜ ReadAs kinds.Init (now (frame .entry)) (now (rows .entry)) r (now (rows .exit)) (now («record» .exit)) ⌝ }
+{
+    read_as(Kind::Init, frame, rows, record)
+}
+
+#[no_mangle]
+pub extern "C" fn trpc_read_data(frame: &[u8], rows: &mut [u32], record: &mut [u32; 24]) -> u32
+    ensures { λ r. ⌜ ReadAs kinds.Data (now (frame .entry)) (now (rows .entry)) r (now (rows .exit)) (now («record» .exit)) ⌝ }
+{
+    read_as(Kind::Data, frame, rows, record)
+}
+
+#[no_mangle]
+pub extern "C" fn trpc_read_feedback(frame: &[u8], rows: &mut [u32], record: &mut [u32; 24]) -> u32
+    ensures { λ r. ⌜ ReadAs kinds.Feedback (now (frame .entry)) (now (rows .entry)) r (now (rows .exit)) (now («record» .exit)) ⌝ }
+{
+    read_as(Kind::Feedback, frame, rows, record)
+}
+
+#[no_mangle]
+pub extern "C" fn trpc_read_close(frame: &[u8], rows: &mut [u32], record: &mut [u32; 24]) -> u32
+    ensures { λ r. ⌜ ReadAs kinds.Close (now (frame .entry)) (now (rows .entry)) r (now (rows .exit)) (now («record» .exit)) ⌝ }
+{
+    read_as(Kind::Close, frame, rows, record)
+}
+
+// ---- The six writers: each writes the frame of a record of its kind, given as 24 numbers, to the start of `out`. It answers the error
+// code; `size` is the frame's, 0 after a refusal.
+
+#[no_mangle]
+pub extern "C" fn trpc_write_request(
+    record: &[u32; 24],
     source: &[u8],
     rows: &[u32],
     body: &[u8],
     out: &mut [u8],
     size: &mut usize,
 ) -> u32
-    ensures { λ r. ⌜ (r ≡ errorOf (writtenFrom kind (now («record» .entry)) (now (source .entry)) (now (rows .entry)) (now (body .entry)) (now (out .entry)) .answer))
-        × (now (size .exit) ≡ countOf (writtenFrom kind (now («record» .entry)) (now (source .entry)) (now (rows .entry)) (now (body .entry)) (now (out .entry)) .answer))
-        × (now (out .exit) ≡ writtenFrom kind (now («record» .entry)) (now (source .entry)) (now (rows .entry)) (now (body .entry)) (now (out .entry)) .output) ⌝ }
+    ensures { λ r. ⌜ WrittenAs kinds.Request (now («record» .entry)) (now (source .entry)) (now (rows .entry)) (now (body .entry))
+        (now (out .entry)) r (now (size .exit)) (now (out .exit)) ⌝ }
 {
-    let encoded = write_as(kind, record_from(kind, record), source, rows, body, out);
-    *size = encoded_size(encoded);
-    encoded_error(encoded)
+    write_as(Kind::Request, record, source, rows, body, out, size)
+}
+
+#[no_mangle]
+pub extern "C" fn trpc_write_response(
+    record: &[u32; 24],
+    source: &[u8],
+    rows: &[u32],
+    body: &[u8],
+    out: &mut [u8],
+    size: &mut usize,
+) -> u32
+    ensures { λ r. ⌜ WrittenAs kinds.Response (now («record» .entry)) (now (source .entry)) (now (rows .entry)) (now (body .entry))
+        (now (out .entry)) r (now (size .exit)) (now (out .exit)) ⌝ }
+{
+    write_as(Kind::Response, record, source, rows, body, out, size)
+}
+
+#[no_mangle]
+pub extern "C" fn trpc_write_init(
+    record: &[u32; 24],
+    source: &[u8],
+    rows: &[u32],
+    body: &[u8],
+    out: &mut [u8],
+    size: &mut usize,
+) -> u32
+    ensures { λ r. ⌜ WrittenAs kinds.Init (now («record» .entry)) (now (source .entry)) (now (rows .entry)) (now (body .entry))
+        (now (out .entry)) r (now (size .exit)) (now (out .exit)) ⌝ }
+{
+    write_as(Kind::Init, record, source, rows, body, out, size)
+}
+
+#[no_mangle]
+pub extern "C" fn trpc_write_data(
+    record: &[u32; 24],
+    source: &[u8],
+    rows: &[u32],
+    body: &[u8],
+    out: &mut [u8],
+    size: &mut usize,
+) -> u32
+    ensures { λ r. ⌜ WrittenAs kinds.Data (now («record» .entry)) (now (source .entry)) (now (rows .entry)) (now (body .entry))
+        (now (out .entry)) r (now (size .exit)) (now (out .exit)) ⌝ }
+{
+    write_as(Kind::Data, record, source, rows, body, out, size)
+}
+
+#[no_mangle]
+pub extern "C" fn trpc_write_feedback(
+    record: &[u32; 24],
+    source: &[u8],
+    rows: &[u32],
+    body: &[u8],
+    out: &mut [u8],
+    size: &mut usize,
+) -> u32
+    ensures { λ r. ⌜ WrittenAs kinds.Feedback (now («record» .entry)) (now (source .entry)) (now (rows .entry)) (now (body .entry))
+        (now (out .entry)) r (now (size .exit)) (now (out .exit)) ⌝ }
+{
+    write_as(Kind::Feedback, record, source, rows, body, out, size)
+}
+
+#[no_mangle]
+pub extern "C" fn trpc_write_close(
+    record: &[u32; 24],
+    source: &[u8],
+    rows: &[u32],
+    body: &[u8],
+    out: &mut [u8],
+    size: &mut usize,
+) -> u32
+    ensures { λ r. ⌜ WrittenAs kinds.Close (now («record» .entry)) (now (source .entry)) (now (rows .entry)) (now (body .entry))
+        (now (out .entry)) r (now (size .exit)) (now (out .exit)) ⌝ }
+{
+    write_as(Kind::Close, record, source, rows, body, out, size)
 }

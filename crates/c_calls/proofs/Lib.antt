@@ -1,6 +1,9 @@
 -- The theorems for a user, and that what they take each call to ensure is what the contracts say
+pub mod CHeader
+pub mod CReading
 pub mod CFaithful
 pub mod CReadBack
+pub mod CWithin
 pub mod Contracts
 -- What the numbers of an answer say is the answer
 mod Told

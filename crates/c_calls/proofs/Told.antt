@@ -1,10 +1,11 @@
--- What the numbers of an answer say is the answer: a frame's size, a count held and an error code are never 0, so 0 is free to say the rest.
+-- What the numbers of an answer say is the answer: a frame's size, a count held and an error code are never 0, so 0 is free to say the
+-- rest.
 use Prim.Native.Nat.{ℕ}
 use mathlib.Core.Path.{_≡_, refl}
-use mathlib.Core.Bool.{Bool, true, false, cond}
+use mathlib.Core.Bool.{Bool, true, false, not, cond}
 use mathlib.Core.List.{List}
 use native.Mathlib.Omega.{arith}
-use borrow.Author.Tests.{eqb-false, ne-eqb}
+use borrow.Author.Tests.{eqb-false, ne-eqb, not-true}
 use lib.Dec.{eqb, ltb}
 use lib.ListN.{length, take}
 use Rattle.frame.specs.Header.{maxFrame}
@@ -52,13 +53,13 @@ told-call : (st : Deframer) (buffer piece : List ℕ) → Told (deframed st buff
 unfolding deframed
 told-call st buffer piece =
     choose ToldBy (ltb (length buffer) maxFrame) _ _ (λ e z. absurd (omega (arith, z)))
-    (λ e.
-    choose ToldBy (knownOf st buffer) _ _
-    (λ k. choose ToldBy (eqb (st .error) 0) _ _ (λ z. told-next (stream (st .held) buffer piece)) (λ n. eqb-false (st .error) 0 n))
-    (λ k z. absurd (omega (arith, z))))
+    (λ e. choose ToldBy (not (knownOf st buffer)) _ _ (λ k z. absurd (omega (arith, z)))
+    (λ k. choose ToldBy (not (eqb (st .error) 0)) _ _ (λ n. eqb-false (st .error) 0 (not-true (eqb (st .error) 0) n))
+    (λ z. told-next (stream (st .held) buffer piece))))
 
 pub progress-back : (st : Deframer) (buffer piece : List ℕ)
-    → progressOf (progressError (deframed st buffer piece .step .progress)) (progressSize (deframed st buffer piece .step .progress)) ≡ deframed st buffer piece .step .progress
+    → progressOf (progressError (deframed st buffer piece .step .progress)) (progressSize (deframed st buffer piece .step .progress))
+    ≡ deframed st buffer piece .step .progress
 progress-back st buffer piece = told-back (deframed st buffer piece .step .progress) (told-call st buffer piece)
 
 -- ---- the end of a stream
@@ -77,10 +78,9 @@ tells-end : (st : Deframer) (buffer : List ℕ) → TellsEnd (ended st buffer)
 unfolding ended
 tells-end st buffer =
     choose TellsEnd (ltb (length buffer) maxFrame) _ _ (λ e z. absurd (omega (arith, z)))
-    (λ e.
-    choose TellsEnd (knownOf st buffer) _ _
-    (λ k. choose TellsEnd (eqb (st .error) 0) _ _ (λ z. choose TellsEnd (eqb (st .held) 0) _ _ (λ c. tt) (λ n. eqb-false (st .held) 0 n)) (λ n. eqb-false (st .error) 0 n))
-    (λ k z. absurd (omega (arith, z))))
+    (λ e. choose TellsEnd (not (knownOf st buffer)) _ _ (λ k z. absurd (omega (arith, z)))
+    (λ k. choose TellsEnd (not (eqb (st .error) 0)) _ _ (λ n. eqb-false (st .error) 0 (not-true (eqb (st .error) 0) n))
+    (λ z. choose TellsEnd (eqb (st .held) 0) _ _ (λ c. tt) (λ n. eqb-false (st .held) 0 n))))
 
 pub end-back : (st : Deframer) (buffer : List ℕ) → endOf (endError (ended st buffer)) (endShort (ended st buffer)) ≡ ended st buffer
 end-back st buffer = tells-back (ended st buffer) (tells-end st buffer)

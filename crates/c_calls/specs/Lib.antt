@@ -1,3 +1,7 @@
--- What a caller in C sees of calls, and what is to hold of it: demand 3, and demand 2
+-- What a caller in C sees of calls, and what is to hold of it: a fixed header, a reading, demand 3, and demand 2
+pub mod Header
+pub mod Readings
 pub mod Calls
 pub mod RoundTrip
+-- and that each start and length that it gets lies within the frame
+pub mod Within

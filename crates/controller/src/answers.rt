@@ -28,18 +28,34 @@ pub(crate) fn print_end(deframer: Deframer, buffer: &[u8]) {
     }
 }
 
-// Takes the jobs, the one that is due first before the others, and answers each.
+// As many as can wait, and the one that is refused.
+const TAKES: usize = 65;
+
+// Takes the jobs, the one that is due first before the others, and answers each. The last take is refused, and says why.
 pub(crate) fn answer_all(q: Queue) {
     let mut waiting = q;
-    for _ in 0..queue::CAPACITY {
+    let mut error = 0;
+    for _ in 0..TAKES {
         let removed = queue::take(waiting);
-        if removed.error != 0 {
+        error = removed.error;
+        if error != 0 {
             break;
         }
         answer(removed.job);
         waiting = removed.queue;
     }
-    print(b"nothing waits\n");
+    print_last(error);
+}
+
+// What the last take said: nothing waits, or the queue is not valid.
+fn print_last(error: u32) {
+    if error == queue::ERROR_EMPTY {
+        print(b"nothing waits\n");
+        return;
+    }
+    print(b"the queue is refused with ");
+    print_number(error as u64);
+    print(b"\n");
 }
 
 // Writes the response to a job, and prints its bytes.

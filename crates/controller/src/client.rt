@@ -120,6 +120,6 @@ fn copy_to(bytes: &[u8], out: &mut [u8], at: usize) -> usize {
     let written = field_writer::write_raw(bytes, out, at);
     match written {
         field_writer::Written::Next(next) => next,
-        field_writer::Written::Full => at,
+        field_writer::Written::Refused(_) => at,
     }
 }

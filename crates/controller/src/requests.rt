@@ -5,6 +5,7 @@ use crate::text::print_number;
 use frame::FixedHeader;
 use frame::FrameType;
 use frame::Parsed;
+use message::Answer;
 use message::Kind;
 use message::Located;
 use message::Record;
@@ -28,20 +29,32 @@ pub(crate) fn accept(q: Queue, frame: &[u8], rows: &mut [u32], now: u64) -> Queu
         return q;
     }
     let located = read_spans(Kind::Request, frame, rows);
-    let record = located.record;
-    match record {
-        Record::Request(request) => {
-            print_request(frame, located, request, rows);
-            add(q, request, now)
-        }
-        Record::Refused(code) => {
+    let answer = located.answer;
+    match answer {
+        Answer::Read(record) => accept_record(q, frame, located, record, rows, now),
+        Answer::Refused(code) => {
             print(b"bad, error ");
             print_number(code as u64);
             print(b"\n");
             q
         }
-        _ => q,
     }
+}
+
+// Queues a job for the request that was read.
+fn accept_record(
+    q: Queue,
+    frame: &[u8],
+    located: Located,
+    record: Record,
+    rows: &[u32],
+    now: u64,
+) -> Queue {
+    let Record::Request(request) = record else {
+        return q;
+    };
+    print_request(frame, located, request, rows);
+    add(q, request, now)
 }
 
 // Whether a frame may be a request; tells of one that is not.

@@ -3,20 +3,20 @@ use Prim.Native.Nat.{ℕ, _+_, _-_, _≤_}
 use mathlib.Core.Path.{_≡_, refl, subst, _∙_}
 use mathlib.Core.Bool.{Bool, true, false, cond}
 use mathlib.Core.List.{List, [], _∷_}
-use lib.ListN.{length, replicate}
+use lib.ListN.{length, take, replicate}
 use lib.Dec.{eqb}
 use native.Mathlib.Omega.{arith}
 use borrow.Author.Tests.{eqb-true}
 use Rattle.frame.specs.Header.{maxFrame}
 use Rattle.wire.specs.Part.{part}
-use Rattle.wire.specs.Fields.{nextField}
-use Rattle.wire.specs.Placed.{fieldAt}
 use Rattle.wire.specs.declared.Field.{Field}
 use Rattle.wire.specs.declared.Field.the-variants as fields
+use Rattle.field_reader.specs.Reader.{stepAt}
+use Rattle.field_reader.specs.declared.Step.{Step}
 use Rattle.wire.proofs.PartLaws.{part-length}
 use Rattle.decoder.specs.Schema.{entry}
-use Rattle.decoder.specs.Fields.{State, Result, ok, blank, Reader, someBytes, unknown, look, setSlot, setBytes, setNumber, fieldsIn}
-use Rattle.decoder.specs.DecoderState.{taken, startOf, withSpan}
+use Rattle.decoder.specs.Fields.{State, Result, ok, blank, startOf, Reader, someBytes, unknown, look, setSlot, setBytes, setNumber, withField, fieldsIn}
+use Rattle.decoder.specs.DecoderState.{withSpan}
 use Rattle.decoder.specs.declared.entry.MapEntry.{MapEntry}
 use Rattle.decoder.proofs.Walk.{Walk, walk-varint, bytes-bounds, bytes-taken}
 
@@ -24,12 +24,12 @@ abbrev pub entryState : MapEntry → State
 entryState e = record { slots = e .key ∷ e .«key_size» ∷ e .value ∷ e .«value_size» ∷ replicate 12 0; rows = []; entries = 0 }
 
 entry-taken : (frame : List ℕ) (read : Reader) (at : ℕ) (x : List ℕ) (e : MapEntry) (n size : ℕ) → length x ≡ size
-    → taken frame read at x (entryState e) (look entry 0 n) ≡ ok (entryState (withSpan n at size e))
-unfolding look taken setBytes setSlot withSpan
+    → withField frame read at x (entryState e) (look entry 0 n) ≡ ok (entryState (withSpan n at size e))
+unfolding look withField setBytes setSlot withSpan
 entry-taken frame read at x e n size h = rw (← h) (by (eqb 1 n) (eqb 2 n))
   where
     by : (a b : Bool)
-        → taken frame read at x (entryState e) (cond a (someBytes 0) (cond b (someBytes 2) unknown))
+        → withField frame read at x (entryState e) (cond a (someBytes 0) (cond b (someBytes 2) unknown))
         ≡ ok (entryState (cond a
         (record { key = startOf at (length x); «key_size» = length x; value = e .value; «value_size» = e .«value_size» })
         (cond b (record { key = e .key; «key_size» = e .«key_size»; value = startOf at (length x); «value_size» = length x }) e)))
@@ -84,25 +84,25 @@ pub entry-start : (frame : List ℕ) (at end : ℕ) → at ≤ end → end ≤ l
 entry-start frame at end h k l = record { walk = record { to = h; long = k; rest = refl }; key = omega arith; small = l }
 
 module _ (frame : List ℕ) (at end i : ℕ) (e : MapEntry) (w : ReadingEntry frame at end i e)
-    (f : Field) (is-f : f ≡ fieldAt i (nextField (part frame i end))) where
-  pub entry-varint : (n v next : ℕ) → f ≡ fields.Varint n v next → ReadingEntry frame at end next e
+    (s : Step) (is-s : s ≡ stepAt (take end frame) i) where
+  pub entry-varint : (n v next : ℕ) → s .field ≡ fields.Varint n v next → ReadingEntry frame at end (s .at) e
   entry-varint n v next q =
       record {
-        walk = subst (Walk frame entry 0 (readEntry frame at end) end next) (entry-number n v (entryState e))
-            (walk-varint frame entry 0 (readEntry frame at end) end i (entryState e) (w .walk) f is-f n v next q);
+        walk = subst (Walk frame entry 0 (readEntry frame at end) end (s .at)) (entry-number n v (entryState e))
+            (walk-varint frame entry 0 (readEntry frame at end) end i (entryState e) (w .walk) s is-s n v next q);
         key = w .key;
         small = w .small;
       }
 
-  pub entry-bytes : (n start size : ℕ) → f ≡ fields.Bytes n start size → (r : MapEntry) → r ≡ withSpan n start size e
-      → ReadingEntry frame at end (start + size) r
+  pub entry-bytes : (n start size : ℕ) → s .field ≡ fields.Bytes n start size → (r : MapEntry) → r ≡ withSpan n start size e
+      → ReadingEntry frame at end (s .at) r
   entry-bytes n start size q r is-r =
-      let b = bytes-bounds frame entry 0 (readEntry frame at end) end i (entryState e) (w .walk) f is-f n start size q in
+      let b = bytes-bounds frame entry 0 (readEntry frame at end) end i (entryState e) (w .walk) s is-s n start size q in
       let l = w .walk .long in
       let x : length (part frame start (start + size)) ≡ size = part-length frame start (start + size) ∙ omega arith in
       rw is-r
       (record {
-        walk = bytes-taken frame entry 0 (readEntry frame at end) end i (entryState e) (w .walk) f is-f n start size q
+        walk = bytes-taken frame entry 0 (readEntry frame at end) end i (entryState e) (w .walk) s is-s n start size q
             (entryState (withSpan n start size e)) (entry-taken frame (fieldsIn size frame) start (part frame start (start + size)) e n size x);
         key = span-key n start size (length frame) e (omega arith) (w .key);
         small = w .small;

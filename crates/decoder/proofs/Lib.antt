@@ -3,6 +3,8 @@ pub mod Codes
 pub mod Steps
 pub mod RowLaws
 pub mod Results
+pub mod ReadingSteps
+pub mod SlotChanges
 pub mod PartEnds
 pub mod Answers
 -- For the proofs of this crate's functions.
@@ -14,3 +16,5 @@ mod StateLaws
 mod MapEntries
 mod FieldLoop
 mod Whole
+-- Demand 1, of every public entry
+pub mod AsksNothing

@@ -9,8 +9,8 @@ use borrow.Author.Tests.{lt-ltb, le-ltb}
 use Rattle.wire.specs.Part.{part}
 use Rattle.decoder.specs.Schema.{entry}
 use Rattle.decoder.specs.Rows.{Row, laidOut, rowsIn}
-use Rattle.decoder.specs.Fields.{State, Result, ok, refused, blank, anEntry, rowOf, enter, addEntry, fieldsIn}
-use Rattle.decoder.specs.DecoderState.{stateOf, Holds, Ready, Tells, taken, takenAt, entryOf, EntryIn, rowOfEntry}
+use Rattle.decoder.specs.Fields.{State, Result, ok, refused, blank, anEntry, rowOf, enter, addEntry, withField, fieldsIn}
+use Rattle.decoder.specs.DecoderState.{stateOf, Holds, Ready, Tells, withFieldAt, entryOf, EntryIn, rowOfEntry}
 use Rattle.decoder.specs.declared.Slots.{Slots}
 use Rattle.decoder.specs.declared.Decoded.{Decoded}
 use Rattle.decoder.specs.declared.entry.MapEntry.{MapEntry}
@@ -22,13 +22,13 @@ module _ (frame : List ℕ) (start size : ℕ) (slots : Slots) (numbers : List �
   abbrev st : State
   st = stateOf slots numbers
 
-  abbrev entry-taken : Result
-  entry-taken = takenAt frame start size st anEntry
+  abbrev gives : Result
+  gives = withFieldAt frame start size st anEntry
 
-  pub too-many : (r : Decoded) → 64 ≤ slots .entries → r .error ≡ 14 → Tells (length frame) entry-taken r numbers numbers
-  unfolding taken
+  pub too-many : (r : Decoded) → 64 ≤ slots .entries → r .error ≡ 14 → Tells (length frame) gives r numbers numbers
+  unfolding withField
   too-many r h e =
-      let z : entry-taken ≡ refused 14 = cc (le-ltb (slots .entries) 64 h) in
+      let z : gives ≡ refused 14 = cc (le-ltb (slots .entries) 64 h) in
       subst (λ (o : Result). Tells (length frame) o r numbers numbers) (sym z) (record { code-is = e; some-code = omega arith; past = refl })
 
   module _ (room : slots .entries < 64) (e : ReadEntry)
@@ -41,18 +41,18 @@ module _ (frame : List ℕ) (start size : ℕ) (slots : Slots) (numbers : List �
         let z : start + size - start ≡ size = omega arith in
         subst (λ (k : ℕ). e ≡ entryOf (fieldsIn k frame entry 0 start (part frame start (start + size)) blank)) z (is-e .0)
 
-    pub entry-refused : (r : Decoded) (code : ℕ) → e ≡ reads.Refused code → r .error ≡ code → Tells (length frame) entry-taken r numbers numbers
-    unfolding taken
+    pub entry-refused : (r : Decoded) (code : ℕ) → e ≡ reads.Refused code → r .error ≡ code → Tells (length frame) gives r numbers numbers
+    unfolding withField
     entry-refused r code q f = by got refl
       where
-        by : (o : Result) → got ≡ o → Tells (length frame) entry-taken r numbers numbers
+        by : (o : Result) → got ≡ o → Tells (length frame) gives r numbers numbers
         by (ok s) p =
             let a : e ≡ entryOf (ok s) = is-entry ∙ ap entryOf p in
             let z : _≡_ {A = ℕ} 0 1 = cc in let b : ⊥ = omega arith in absurd b
         by (refused other) p =
             let a : e ≡ entryOf (refused other) = is-entry ∙ ap entryOf p in
             let same : other ≡ code = cc in
-            let z : entry-taken ≡ refused code = cc (lt-ltb (slots .entries) 64 room) in
+            let z : gives ≡ refused code = cc (lt-ltb (slots .entries) 64 room) in
             subst (λ (o : Result). Tells (length frame) o r numbers numbers) (sym z)
             (record { code-is = f; some-code = subst (EntryIn (length frame)) q (is-e .1); past = refl })
 
@@ -86,11 +86,11 @@ module _ (frame : List ℕ) (start size : ℕ) (slots : Slots) (numbers : List �
       answer count = record { slots = record { values = slots .values; rows = count; entries = slots .entries + 1 }; error = 0 }
 
       pub entry-added : (count : ℕ) (after : List ℕ) → (count ≡ length rows-then) × (after ≡ laidOut rows-then numbers)
-          → Tells (length frame) entry-taken (answer count) after numbers
-      unfolding taken addEntry
+          → Tells (length frame) gives (answer count) after numbers
+      unfolding withField addEntry
       entry-added count after p = by got refl
         where
-          by : (o : Result) → got ≡ o → Tells (length frame) entry-taken (answer count) after numbers
+          by : (o : Result) → got ≡ o → Tells (length frame) gives (answer count) after numbers
           by (refused code) g =
               let a : e ≡ entryOf (refused code) = is-entry ∙ ap entryOf g in
               let z : _≡_ {A = ℕ} 0 1 = cc in let b : ⊥ = omega arith in absurd b
@@ -98,7 +98,7 @@ module _ (frame : List ℕ) (start size : ℕ) (slots : Slots) (numbers : List �
               let a : e ≡ entryOf (ok s) = is-entry ∙ ap entryOf g in
               let same : reads.Entry new ≡ entryOf (ok s) = sym q ∙ a in
               let row : rowOfEntry new ≡ rowOf s = cc in
-              let z : entry-taken ≡ ok (addEntry frame s st) = cc (lt-ltb (slots .entries) 64 room) in
+              let z : gives ≡ ok (addEntry frame s st) = cc (lt-ltb (slots .entries) 64 room) in
               let y : addEntry frame s st ≡ record { slots = slots .values; rows = rows-then; entries = suc (slots .entries) } = rw row refl in
               subst (λ (o : Result). Tells (length frame) o (answer count) after numbers)
               (sym (z ∙ ap ok y)) (record { no-error = refl; holds = entry-held count after (p .0) (p .1) })

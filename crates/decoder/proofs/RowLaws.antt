@@ -9,8 +9,8 @@ use lib.Dec.{eqb}
 use native.Mathlib.Omega.{arith}
 use native.Mathlib.Numerals.{add-one}
 use borrow.Author.Tests.{eq-eqb, eqb-true}
-use Rattle.decoder.specs.Fields.{State, partOf, sameBytes}
 use Rattle.decoder.specs.Rows.{Row, rowNumbers, flat, laidOut, rowsIn}
+use Rattle.decoder.specs.Fields.{State, partOf, sameBytes}
 use Rattle.decoder.specs.DecoderState.{stateOf, Holds}
 use Rattle.decoder.specs.declared.Slots.{Slots}
 
@@ -130,16 +130,6 @@ same-test false a b f g = by (sameBytes a b) refl
     by : (t : Bool) → sameBytes a b ≡ t → false ≡ t
     by false e = refl
     by true e = g (same-equal a b e)
-
--- of two parts of the frame
-pub same-parts : (r : Bool) (frame : List ℕ) (a m b n : ℕ)
-    → (r ≡ true → take (a + m - a) (drop a frame) ≡ take (b + n - b) (drop b frame))
-    × (take (a + m - a) (drop a frame) ≡ take (b + n - b) (drop b frame) → r ≡ true)
-    → r ≡ sameBytes (partOf frame a m) (partOf frame b n)
-same-parts r frame a m b n h =
-    let e : a + m - a ≡ m = omega arith in
-    let f : b + n - b ≡ n = omega arith in
-    same-test r (partOf frame a m) (partOf frame b n) (rw (e, f) at (h .0)) (rw (e, f) at (h .1))
 
 -- ---- the row of a number
 

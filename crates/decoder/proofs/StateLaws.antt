@@ -6,8 +6,9 @@ use lib.ListN.{length, set, length-set}
 use native.Mathlib.Omega.{arith}
 use Rattle.wire.specs.Part.{part}
 use Rattle.wire.proofs.PartLaws.{part-length}
-use Rattle.decoder.specs.Fields.{State, Result, ok, Target, aNumber, someBytes, anEntry, aMessage, unknown, setSlot, setBytes, setNumber, fieldsIn}
-use Rattle.decoder.specs.DecoderState.{partSchema, slotAt, stateOf, Holds, Ready, Tells, taken, takenAt, readAt, withNumber, withBytes}
+use Rattle.decoder.specs.Schema.{partSchema, slotAt}
+use Rattle.decoder.specs.Fields.{State, Result, ok, Target, aNumber, someBytes, anEntry, aMessage, unknown, setSlot, setBytes, setNumber, withField, fieldsIn}
+use Rattle.decoder.specs.DecoderState.{stateOf, Holds, Ready, Tells, withFieldAt, readAt, withNumber, withBytes}
 use Rattle.decoder.specs.declared.Slots.{Slots}
 use Rattle.decoder.specs.declared.Decoded.{Decoded}
 
@@ -51,31 +52,31 @@ mark-held size slots numbers h i = slot-held size (stateOf slots numbers) slots 
 -- ---- what `read_inside` answers
 
 module _ (frame : List ℕ) (start size : ℕ) (slots : Slots) (numbers : List ℕ) (fits : start + size ≤ length frame) (t : Target) where
-  abbrev inside-taken : Result
-  inside-taken = takenAt frame start size (stateOf slots numbers) t
+  abbrev gives : Result
+  gives = withFieldAt frame start size (stateOf slots numbers) t
 
   pub inside-bytes : (h : Ready frame slots numbers) (i : ℕ) → t ≡ someBytes i → (r : Slots) → r ≡ withBytes i start size slots
-      → Tells (length frame) inside-taken (record { slots = r; error = 0 }) numbers numbers
-  unfolding taken
+      → Tells (length frame) gives (record { slots = r; error = 0 }) numbers numbers
+  unfolding withField
   inside-bytes h i e r is-r =
       let x : length (part frame start (start + size)) ≡ size = part-length frame start (start + size) ∙ omega arith in
-      let z : inside-taken ≡ ok (setBytes i start size (stateOf slots numbers)) = rw (e, x) refl in
+      let z : gives ≡ ok (setBytes i start size (stateOf slots numbers)) = rw (e, x) refl in
       subst (λ (o : Result). Tells (length frame) o (record { slots = r; error = 0 }) numbers numbers) (sym z)
       (record { no-error = refl; holds = rw is-r (bytes-held (length frame) (stateOf slots numbers) slots numbers numbers h i start size) })
 
   pub inside-number : (h : Ready frame slots numbers) (i : ℕ) → t ≡ aNumber i
-      → Tells (length frame) inside-taken (record { slots = slots; error = 0 }) numbers numbers
-  unfolding taken
+      → Tells (length frame) gives (record { slots = slots; error = 0 }) numbers numbers
+  unfolding withField
   inside-number h i e = rw e (record { no-error = refl; holds = h })
 
   pub inside-unknown : (h : Ready frame slots numbers) → t ≡ unknown
-      → Tells (length frame) inside-taken (record { slots = slots; error = 0 }) numbers numbers
-  unfolding taken
+      → Tells (length frame) gives (record { slots = slots; error = 0 }) numbers numbers
+  unfolding withField
   inside-unknown h e = rw e (record { no-error = refl; holds = h })
 
   pub inside-entry : (r : Decoded) (after : List ℕ) → t ≡ anEntry
-      → Tells (length frame) (takenAt frame start size (stateOf slots numbers) anEntry) r after numbers
-      → Tells (length frame) inside-taken r after numbers
+      → Tells (length frame) (withFieldAt frame start size (stateOf slots numbers) anEntry) r after numbers
+      → Tells (length frame) gives r after numbers
   inside-entry r after e q = rw e q
 
   abbrev marked : ℕ → Slots
@@ -83,8 +84,8 @@ module _ (frame : List ℕ) (start size : ℕ) (slots : Slots) (numbers : List �
 
   pub inside-message : (i inner : ℕ) → t ≡ aMessage i (partSchema inner) → slotAt inner ≡ i + 1 → (r : Decoded) (after : List ℕ)
       → Tells (length frame) (readAt frame inner start (start + size) (stateOf (marked i) numbers)) r after numbers
-      → Tells (length frame) inside-taken r after numbers
-  unfolding taken setSlot
+      → Tells (length frame) gives r after numbers
+  unfolding withField setSlot
   inside-message i inner e s r after q =
       let z : start + size - start ≡ size = omega arith in
       let Read : ℕ → Type 0 =

@@ -4,12 +4,11 @@ use mathlib.Core.Path.{_≡_, sym, ap, subst, _∙_}
 use mathlib.Core.Bool.{false}
 use lib.Dec.{eqb}
 use borrow.Author.Tests.{ne-eqb}
-use Rattle.decoder.specs.Schema.{Schema, done}
+use Rattle.decoder.specs.Schema.{Schema, done, schemaAt, partSchema}
+use Rattle.decoder.specs.Fields.{Target, aNumber, someBytes, anEntry, aMessage, unknown}
+use Rattle.decoder.specs.DecoderState.{targetOf, Fit, withNumber}
 use lib.ListN.{set}
 use Rattle.wire.specs.Varint.{lowU32}
-use Rattle.decoder.specs.Fields.{Target, aNumber, someBytes, anEntry, aMessage, unknown}
-use Rattle.decoder.specs.Decoding.{schemaAt}
-use Rattle.decoder.specs.DecoderState.{partSchema, targetOf, Fit, withNumber}
 use Rattle.decoder.specs.declared.Slots.{Slots}
 use Rattle.decoder.specs.declared.fields.Target.{Target as Place}
 

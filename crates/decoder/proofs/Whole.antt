@@ -6,10 +6,11 @@ use lib.ListN.{length, drop, replicate}
 use native.Mathlib.Omega.{arith}
 use Rattle.wire.specs.Part.{part}
 use Rattle.wire.proofs.PartLaws.{part-length}
-use Rattle.decoder.specs.Fields.{State, Result, ok, refused, blank, readMessage}
+use Rattle.decoder.specs.Schema.{schemaAt, partSchema, slotAt}
 use Rattle.decoder.specs.Rows.{rowNumbers, laidOut, rowsIn}
-use Rattle.decoder.specs.Decoding.{schemaAt, refusedWith, readAs, outcome}
-use Rattle.decoder.specs.DecoderState.{partSchema, slotAt, stateOf, Holds, Tells, readAt}
+use Rattle.decoder.specs.Fields.{State, Result, ok, refused, blank, readMessage}
+use Rattle.decoder.specs.Decoding.{refusedAs, readAs, outcome}
+use Rattle.decoder.specs.DecoderState.{stateOf, Holds, Tells, readAt}
 use Rattle.decoder.specs.declared.Slots.{Slots}
 use Rattle.decoder.specs.declared.Decoded.{Decoded}
 use Rattle.decoder.proofs.RowLaws.{drop-laid, held}
@@ -72,10 +73,10 @@ module _ (frame : List ℕ) (schema at end s : ℕ) (lent numbers after : List �
           (same-answer d st (t .no-error) (h .values-are) (h .rows-are) (h .entries-are), rw (← past) (h .laid))
       by (refused code) t = let a = t .code-is in let b = t .some-code in let c : ⊥ = omega arith in absurd c
 
-  pub not-decoded : (d .error ≡ 0 → ⊥) → (r : Decoded) → r ≡ refusedWith (d .error) → (last : List ℕ) → last ≡ laidOut [] after → Gives r last message
+  pub not-decoded : (d .error ≡ 0 → ⊥) → (r : Decoded) → r ≡ refusedAs (d .error) → (last : List ℕ) → last ≡ laidOut [] after → Gives r last message
   unfolding outcome
   not-decoded z r g last e = by message told
     where
       by : (o : Result) → Tells (length frame) o d after numbers → Gives r last o
       by (ok st) t = absurd (z (t .no-error))
-      by (refused code) t = (g ∙ ap refusedWith (t .code-is), e ∙ relaid after (t .past ∙ past))
+      by (refused code) t = (g ∙ ap refusedAs (t .code-is), e ∙ relaid after (t .past ∙ past))

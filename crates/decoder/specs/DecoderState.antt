@@ -1,17 +1,16 @@
--- What the decoder's private functions promise to each other: the slots and the lent row numbers, told as the state of `Fields`. `Decoding` alone says
--- what `decode` answers.
+-- Only for the private functions of this crate, and imported by no other: what they promise to each other. The slots and the lent row
+-- numbers are told as the state of `Fields`. What `decode` answers is in `Decoding`.
 use Prim.Native.Nat.{ℕ, suc, _+_, _-_, _<_, _≤_}
 use mathlib.Core.Path.{_≡_}
-use mathlib.Core.Bool.{true, false, cond}
+use mathlib.Core.Bool.{cond}
 use mathlib.Core.List.{List, [], _∷_}
 use lib.ListN.{length, drop, getD, set}
-use lib.Dec.{ltb, eqb}
+use lib.Dec.{eqb}
 use Rattle.wire.specs.Part.{part}
 use Rattle.wire.specs.Varint.{lowU32}
-use Rattle.decoder.specs.Schema.{Schema, requestMeta, responseMeta, entry}
+use Rattle.decoder.specs.Schema.{partSchema, slotAt}
 use Rattle.decoder.specs.Rows.{Row, rowNumbers, laidOut, rowsIn}
-use Rattle.decoder.specs.Fields.{State, Result, ok, refused, blank, Reader, Target, aNumber, someBytes, anEntry, aMessage, unknown, setSlot, setBytes, partOf, sameBytes, addEntry, fieldsIn}
-use Rattle.decoder.specs.Decoding.{schemaAt}
+use Rattle.decoder.specs.Fields.{State, Result, ok, refused, Target, aNumber, someBytes, anEntry, aMessage, unknown, startOf, partOf, sameBytes, withField, fieldsIn}
 use Rattle.decoder.specs.declared.Slots.{Slots}
 use Rattle.decoder.specs.declared.Decoded.{Decoded}
 use Rattle.decoder.specs.declared.fields.Target.{Target as Place}
@@ -20,15 +19,7 @@ use Rattle.decoder.specs.declared.entry.MapEntry.{MapEntry}
 use Rattle.decoder.specs.declared.entry.ReadEntry.{ReadEntry}
 use Rattle.decoder.specs.declared.entry.ReadEntry.the-variants as reads
 
--- ---- the schema numbers
-
--- the message of a schema number, 6 and 7 for the parts of Init
-unfoldable pub partSchema : ℕ → Schema
-partSchema n = cond (eqb n 6) requestMeta (cond (eqb n 7) responseMeta (schemaAt n))
-
--- the first slot of a message: the parts of Init have theirs behind their present marks
-unfoldable pub slotAt : ℕ → ℕ
-slotAt n = cond (eqb n 6) 1 (cond (eqb n 7) 9 0)
+-- ---- targets
 
 -- the target that the code names
 abbrev pub targetOf : Place → Target
@@ -96,23 +87,12 @@ Tells size (refused code) r numbers lent = Refuses code r numbers lent
 
 -- ---- one field
 
--- what the bytes x of a field, which stand at `at`, do to the state
-unfoldable pub taken : List ℕ → Reader → ℕ → List ℕ → State → Target → Result
-taken frame read at x st (aNumber slot) = ok st
-taken frame read at x st (someBytes slot) = ok (setBytes slot at (length x) st)
-taken frame read at x st anEntry =
-    elim (ltb (st .entries) 64) [
-      | false ↦ refused 14
-      | true ↦ elim (read entry 0 at x blank) [ refused code ↦ refused code | ok e ↦ ok (addEntry frame e st) ]
-    ]
-taken frame read at x st (aMessage slot inner) = read inner (slot + 1) at x (setSlot slot 1 st)
-taken frame read at x st unknown = ok st
+-- what the `size` bytes of the frame from `start`, as a field, do to the state
+abbrev pub withFieldAt : (frame : List ℕ) (start size : ℕ) → State → Target → Result
+withFieldAt frame start size st t = withField frame (fieldsIn size frame) start (part frame start (start + size)) st t
 
--- of `size` bytes of the frame from `start`
-abbrev pub takenAt : (frame : List ℕ) (start size : ℕ) → State → Target → Result
-takenAt frame start size st t = taken frame (fieldsIn size frame) start (part frame start (start + size)) st t
-
--- what the bytes of the frame from `at` to `end` do to the state, as fields of a schema number
+-- what the bytes of the frame from `at` to `end` do to the state, as fields of a schema number; `read_fields` asks that `at` is not past
+-- `end`, so the subtraction is not cut off
 abbrev pub readAt : (frame : List ℕ) (schema at end : ℕ) → State → Result
 readAt frame schema at end st = fieldsIn (end - at) frame (partSchema schema) (slotAt schema) at (part frame at end) st
 
@@ -123,10 +103,6 @@ withNumber (someBytes i) v s = s
 withNumber anEntry v s = s
 withNumber (aMessage i inner) v s = s
 withNumber unknown v s = s
-
--- "an empty one is 0, 0"
-abbrev pub startOf : (start size : ℕ) → ℕ
-startOf start size = cond (eqb size 0) 0 start
 
 unfoldable pub withBytes : ℕ → ℕ → ℕ → Slots → Slots
 withBytes i start size s = record { values = set (set (s .values) i (startOf start size)) (i + 1) size; rows = s .rows; entries = s .entries }

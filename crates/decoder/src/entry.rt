@@ -1,5 +1,6 @@
 // A map entry: "a message of key 1 and value 2".
 use crate::fields::start_of;
+use crate::walking::step_in;
 use wire::Field;
 ghost use mathlib.Core.Path.{_≡_};
 ghost use Prim.Native.Nat.{_+_, _-_, _≤_};
@@ -62,7 +63,8 @@ pub(crate) fn read_entry(frame: &[u8], at: usize, end: usize) -> ReadEntry
     };
     let mut i = at;
     loop {
-        let f = wire::next_field(frame, i, end);
+        let step = step_in(frame, i, end);
+        let f = step.field;
         match f {
             Field::End => {
                 break ReadEntry::Entry(e);
@@ -72,20 +74,12 @@ pub(crate) fn read_entry(frame: &[u8], at: usize, end: usize) -> ReadEntry
             }
             Field::Bytes(number, start, size) => {
                 e = set_span(e, number, start, size);
-                i = start + size;
             }
-            Field::Varint(_, _, next) => {
-                i = next;
-            }
-            Field::Fixed64(_, _, next) => {
-                i = next;
-            }
-            Field::Group(_, next) => {
-                i = next;
-            }
-            Field::Fixed32(_, _, next) => {
-                i = next;
-            }
+            Field::Varint(_, _, _) => {}
+            Field::Fixed64(_, _, _) => {}
+            Field::Group(_, _) => {}
+            Field::Fixed32(_, _, _) => {}
         }
+        i = step.at;
     }
 }

@@ -4,6 +4,7 @@ mod entry;
 mod fields;
 mod messages;
 mod rows;
+mod walking;
 
 use frame::MAX_FRAME;
 use messages::decode_part;
@@ -11,10 +12,12 @@ use messages::refused;
 use rows::clear;
 ghost use mathlib.Core.Path.{_≡_};
 ghost use Prim.Native.Nat.{min};
-ghost use Rattle.decoder.specs.Rows.{cleared};
+ghost use lib.ListN.{length};
+ghost use Rattle.decoder.specs.Rows.{rowsCleared};
+ghost use Rattle.decoder.specs.Fields.{partOf, sameBytes};
 ghost use Rattle.decoder.specs.Decoding.{decoded};
 
-// The schema numbers. Data has no fields, nor has a message of any other number.
+// The schema numbers: the messages, and the two parts of Init. Data has no fields, nor has a message of any other number.
 pub const REQUEST: u32 = 0;
 
 pub const RESPONSE: u32 = 1;
@@ -26,6 +29,10 @@ pub const DATA: u32 = 3;
 pub const FEEDBACK: u32 = 4;
 
 pub const CLOSE: u32 = 5;
+
+pub const REQUEST_META: u32 = 6;
+
+pub const RESPONSE_META: u32 = 7;
 
 // The numbers that the rows may take, four to a row.
 pub const ROW_NUMBERS: usize = 256;
@@ -69,9 +76,26 @@ pub fn decode(frame: &[u8], at: usize, end: usize, schema: u32, rows: &mut [u32]
 
 // Leaves no rows: the first 256 numbers are 0 then. A shorter slice is left as it is.
 pub fn clear_rows(rows: &mut [u32])
-    ensures { λ _. ⌜ now (rows .exit) ≡ cleared (now (rows .entry)) ⌝ }
+    ensures { λ _. ⌜ now (rows .exit) ≡ rowsCleared (now (rows .entry)) ⌝ }
 {
     if ROW_NUMBERS <= rows.len() {
         clear(rows);
     }
+}
+
+// The bytes that a start and a length name, as far as there are any.
+fn named(bytes: &[u8], start: usize, size: usize) -> &[u8]
+    ensures { λ r. ⌜ now r ≡ partOf (now (bytes .entry)) start size ⌝ }
+{
+    let n = bytes.len();
+    let from = least(start, n);
+    let end = from + least(size, n - from);
+    &bytes[from..end]
+}
+
+// Whether the bytes that two starts and lengths name are the same, each as far as there are any.
+pub fn same_key(bytes: &[u8], a: usize, a_size: usize, b: usize, b_size: usize) -> bool
+    ensures { λ r. ⌜ r ≡ sameBytes (partOf (now (bytes .entry)) a «a_size») (partOf (now (bytes .entry)) b «b_size») ⌝ }
+{
+    check::same(named(bytes, a, a_size), named(bytes, b, b_size))
 }

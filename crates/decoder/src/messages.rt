@@ -9,16 +9,18 @@ use crate::fields::message_schema;
 use crate::fields::start_of;
 use crate::rows::clear;
 use crate::rows::enter_row;
+use crate::walking::step_in;
 use wire::Field;
 ghost use mathlib.Core.Path.{_≡_};
 ghost use Prim.Native.Nat.{_+_, _≤_, _<_};
 ghost use lib.ListN.{length};
 ghost use Rattle.frame.specs.Header.{maxFrame};
 ghost use Rattle.wire.specs.Part.{part};
-ghost use Rattle.decoder.specs.Fields.{look, anEntry, readMessage};
+ghost use Rattle.decoder.specs.Schema.{schemaAt, partSchema, slotAt};
 ghost use Rattle.decoder.specs.Rows.{rowNumbers};
-ghost use Rattle.decoder.specs.Decoding.{schemaAt, refusedWith, outcome};
-ghost use Rattle.decoder.specs.DecoderState.{partSchema, slotAt, stateOf, Ready, Tells, takenAt, readAt, withNumber, withBytes};
+ghost use Rattle.decoder.specs.Fields.{look, anEntry, readMessage};
+ghost use Rattle.decoder.specs.Decoding.{refusedAs, outcome};
+ghost use Rattle.decoder.specs.DecoderState.{stateOf, Ready, Tells, withFieldAt, readAt, withNumber, withBytes};
 
 // The map entries that a message may have, repeats counted.
 const MAX_ENTRIES: u32 = 64;
@@ -29,7 +31,7 @@ const TOO_MANY_ENTRIES: u32 = 14;
 
 // A refusal: nothing was read.
 pub(crate) fn refused(code: u32) -> Decoded
-    ensures { λ r. ⌜ r ≡ refusedWith code ⌝ }
+    ensures { λ r. ⌜ r ≡ refusedAs code ⌝ }
 {
     Decoded {
         slots: Slots {
@@ -73,7 +75,7 @@ fn set_bytes(slots: Slots, slot: usize, start: usize, size: usize) -> Slots
 // The map entry in the `size` bytes of the frame from `start`.
 fn add_entry(frame: &[u8], start: usize, size: usize, slots: Slots, rows: &mut [u32]) -> Decoded
     requires { ⌜ (start + size ≤ length (now frame)) × (length (now frame) ≤ maxFrame) × Ready (now frame) slots (now rows) ⌝ }
-    ensures { λ r. ⌜ Tells (length (now (frame .entry))) (takenAt (now (frame .entry)) start size (stateOf slots (now (rows .entry))) anEntry) r (now (rows .exit)) (now (rows .entry)) ⌝ }
+    ensures { λ r. ⌜ Tells (length (now (frame .entry))) (withFieldAt (now (frame .entry)) start size (stateOf slots (now (rows .entry))) anEntry) r (now (rows .exit)) (now (rows .entry)) ⌝ }
 {
     let entries = slots.entries;
     if entries >= MAX_ENTRIES {
@@ -111,7 +113,7 @@ fn read_inside(
     rows: &mut [u32],
 ) -> Decoded
     requires { ⌜ (start + size ≤ length (now frame)) × (length (now frame) ≤ maxFrame) × Ready (now frame) slots (now rows) ⌝ }
-    ensures { λ r. ⌜ Tells (length (now (frame .entry))) (takenAt (now (frame .entry)) start size (stateOf slots (now (rows .entry))) (look (partSchema schema) (slotAt schema) number)) r (now (rows .exit)) (now (rows .entry)) ⌝ }
+    ensures { λ r. ⌜ Tells (length (now (frame .entry))) (withFieldAt (now (frame .entry)) start size (stateOf slots (now (rows .entry))) (look (partSchema schema) (slotAt schema) number)) r (now (rows .exit)) (now (rows .entry)) ⌝ }
 {
     let t = field_target(schema, number);
     match t {
@@ -145,7 +147,8 @@ fn read_fields(
     let mut slots = initial;
     let mut i = at;
     loop {
-        let f = wire::next_field(frame, i, end);
+        let step = step_in(frame, i, end);
+        let f = step.field;
         match f {
             Field::End => {
                 break Decoded { slots, error: 0 };
@@ -153,9 +156,8 @@ fn read_fields(
             Field::Refused(code) => {
                 break Decoded { slots, error: code };
             }
-            Field::Varint(number, value, next) => {
+            Field::Varint(number, value, _) => {
                 slots = set_number(slots, schema, number, value);
-                i = next;
             }
             Field::Bytes(number, start, size) => {
                 let d = read_inside(frame, start, size, schema, number, slots, rows);
@@ -164,18 +166,12 @@ fn read_fields(
                 }
                 let after = d.slots;
                 slots = after;
-                i = start + size;
             }
-            Field::Fixed64(_, _, next) => {
-                i = next;
-            }
-            Field::Group(_, next) => {
-                i = next;
-            }
-            Field::Fixed32(_, _, next) => {
-                i = next;
-            }
+            Field::Fixed64(_, _, _) => {}
+            Field::Group(_, _) => {}
+            Field::Fixed32(_, _, _) => {}
         }
+        i = step.at;
     }
 }
 

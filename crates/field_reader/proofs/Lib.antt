@@ -8,3 +8,5 @@ pub mod StepLaws
 pub mod WalkLaws
 -- For the proofs of this crate's functions.
 mod LastLaws
+-- Demand 1, of every public entry
+pub mod AsksNothing

@@ -30,7 +30,7 @@ behindOf at (fields.Group n next) = next
 behindOf at (fields.Fixed32 n v next) = next
 behindOf at (fields.Refused code) = at
 
-behindOf-used : (at : ℕ) (f : FieldResult) → behindOf at (fieldAt at f) ≡ at + usedBy f
+pub behindOf-used : (at : ℕ) (f : FieldResult) → behindOf at (fieldAt at f) ≡ at + usedBy f
 unfolding fieldAt usedBy
 behindOf-used at noField = omega arith
 behindOf-used at (varintField n v used) = refl

@@ -14,7 +14,8 @@ unfoldable pub onward : (List ℕ → List FieldResult) → ℕ → List ℕ →
 onward go zero s = []
 onward go (suc used) s = go (drop (suc used) s)
 
--- at most `steps` fields, and what comes behind them
+-- at most `steps` fields, and what comes after them: with no steps left that is the end or a refusal, since each field took a byte
+-- (`walk-more`, `walk-last`, proofs/WalkLaws)
 unfoldable pub walkIn : ℕ → List ℕ → List FieldResult
 walkIn zero s = nextField s ∷ []
 walkIn (suc steps) s = nextField s ∷ onward (walkIn steps) (usedBy (nextField s)) s
@@ -47,5 +48,6 @@ after (suc n) r = after n (nextOf r .reader)
 pub record Walks (r : FieldReader) (w : List FieldResult) : Type 0 where
   -- the calls answer the fields from left to right, each with its place, and then the end or the refusal
   pub fields : answered (length w) r ≡ placed (r .at) w
-  -- from that last answer on the reader stays behind the fields, with the same bytes, so every later call repeats it
+  -- from that last answer on the reader stays after the fields, with the same bytes, so every later call repeats it; there is one
+  -- (`walk-some`)
   pub stays : (n : ℕ) → after (pred (length w) + n) r ≡ record { bytes = r .bytes; at = r .at + bytesTaken w }

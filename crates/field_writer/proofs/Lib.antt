@@ -8,3 +8,5 @@ pub mod Encoding
 pub mod Outputs
 -- For the proofs of this crate's functions.
 mod SignedLaws
+-- Demand 1, of every public entry
+pub mod AsksNothing

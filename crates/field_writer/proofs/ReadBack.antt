@@ -1,9 +1,11 @@
 -- What was written reads back as itself, with exactly its length, whatever follows it and wherever it stands: a varint, a tag, a field of a number,
 -- a field of bytes; a uint32 and an int32 of a varint. And a varint is written in as few bytes as any reading of that number takes.
--- Ruled out: a writer that drops the bit of a tenth byte, and one that writes -1 in five bytes.
+-- A tag is refused with 11 exactly where the reader would refuse it with 11, or would read another number or wire type (`tag-told`,
+-- `tag-exactly`).
+-- Ruled out: a writer that drops the bit of a tenth byte, one that writes -1 in five bytes, and one that writes a tag of field 0.
 use Prim.Native.Nat.{ℕ, zero, suc, _+_, _*_, _-_, _/_, _%_, _^_, _<_, _≤_}
-use mathlib.Core.Path.{_≡_, refl, ap, ap₂, subst, _∙_}
-use mathlib.Core.Bool.{Bool, true, false, cond, _&&_}
+use mathlib.Core.Path.{_≡_, refl, sym, ap, ap₂, subst, _∙_}
+use mathlib.Core.Bool.{Bool, true, false, true≢false, cond, _&&_}
 use mathlib.Core.List.{List, [], _∷_, _++_, append-assoc}
 use lib.ListN.{length, take, drop, length-append}
 use lib.Seq.{take-at, drop-at}
@@ -14,10 +16,11 @@ use lib.Signed.{mag}
 use native.Mathlib.Omega.{arith}
 use native.Mathlib.Nat.{mod-lt, mod-eq-of-lt, div-add-mod'}
 use borrow.Author.Tests.{lt-ltb, le-ltb, le-leb, ne-eqb, ltb-true, ltb-false}
+use Rattle.wire.specs.Errors.{badTag}
 use Rattle.wire.specs.Varint.{VarintResult, got, bad, joined, groups, varint, lowU32, twosComplement, lowI32}
-use Rattle.wire.specs.Tags.{VARINT, LEN, wireType, field, split, tag, bytes, within, lengthPrefix}
+use Rattle.wire.specs.Tags.{TagResult, VARINT, LEN, wireType, field, tagError, split, tag, bytes, within, lengthPrefix}
 use Rattle.wire.specs.Fields.{varintField, bytesField, content, behind, nextField}
-use Rattle.field_writer.specs.Writing.{shortest, putVarint, signExtended, putTag, putBytes}
+use Rattle.field_writer.specs.Writing.{shortest, putVarint, signExtended, putTag, putBytes, goodTag}
 use Rattle.wire.proofs.Bounds.{either}
 use Rattle.field_writer.proofs.Encoding.{shortest-last, shortest-more, left-fits, varint-bounds, shortest-full}
 
@@ -65,18 +68,56 @@ unfolding tag
 tag-some [] rest h = let z : ⊥ = omega arith in absurd z
 tag-some (b ∷ x) rest h = refl
 
-module _ (n w : ℕ) (some : 0 < n) (high : n < 2 ^ 29) (known : w < 6) where
-  number-back : (n * 8 + w) / 8 ≡ n
-  number-back = digits-div n {m = 8} {r = w} (omega arith)
+-- no tag has a wire type of more
+three-bits : (v used n w used′ : ℕ) → split (got v used) ≡ field n w used′ → w < 8
+unfolding split
+three-bits v used n w used′ e = by (ltb v (2 ^ 32) && (ltb 0 (v / 8) && ltb (v % 8) 6)) e
+  where
+    by : (ok : Bool) → cond ok (field (v / 8) (v % 8) used) (tagError badTag) ≡ field n w used′ → w < 8
+    by true g = let same : v % 8 ≡ w = cc in omega arith
+    by false g = let z : _≡_ {A = ℕ} 0 1 = cc in let a : ⊥ = omega arith in absurd a
 
-  type-back : (n * 8 + w) % 8 ≡ w
-  type-back = digits-mod n {m = 8} {r = w} (omega arith)
+module _ (n w : ℕ) (rest : List ℕ) (fits : n * 8 + w < 2 ^ 64) where
+  tag-is : tag (putTag n w ++ rest) ≡ split (got (n * 8 + w) (length (putTag n w)))
+  tag-is = tag-some (putTag n w) rest (varint-bounds (n * 8 + w) .0) ∙ rw (varint-back (n * 8 + w) rest fits)
+
+  -- of a wire type of three bits: the reader takes what `write_tag` takes, and refuses with 11 what it refuses with 11
+  pub tag-told : w < 8 → tag (putTag n w ++ rest) ≡ cond (goodTag n w) (field n w (length (putTag n w))) (tagError badTag)
+  unfolding split goodTag
+  tag-told small =
+      let number : (n * 8 + w) / 8 ≡ n = digits-div n {m = 8} {r = w} small in
+      let type : (n * 8 + w) % 8 ≡ w = digits-mod n {m = 8} {r = w} small in
+      tag-is ∙ rw (number, type)
+
+  -- of any wire type: what reads back as itself is taken
+  pub tag-exactly : (used : ℕ) → tag (putTag n w ++ rest) ≡ field n w used → goodTag n w ≡ true
+  tag-exactly used e =
+      let small = three-bits (n * 8 + w) (length (putTag n w)) n w used (sym tag-is ∙ e) in
+      taken (goodTag n w) (sym (tag-told small) ∙ e)
+    where
+      taken : (good : Bool) → cond good (field n w (length (putTag n w))) (tagError badTag) ≡ field n w used → good ≡ true
+      taken true g = refl
+      taken false g = let z : _≡_ {A = ℕ} 0 1 = cc in let a : ⊥ = omega arith in absurd a
+
+-- field numbers 1 to 2^29 - 1 with the wire types 0 to 5
+module _ (n w : ℕ) (some : 0 < n) (high : n < 2 ^ 29) (known : w < 6) where
+  pub tag-good : goodTag n w ≡ true
+  unfolding goodTag
+  tag-good = rw (lt-ltb (n * 8 + w) (2 ^ 32) (omega arith), lt-ltb 0 n some, lt-ltb w 6 known)
 
   pub tag-back : (rest : List ℕ) → tag (putTag n w ++ rest) ≡ field n w (length (putTag n w))
-  unfolding split
-  tag-back rest =
-      tag-some (putTag n w) rest (varint-bounds (n * 8 + w) .0)
-      ∙ rw (varint-back (n * 8 + w) rest (omega arith), lt-ltb (n * 8 + w) (2 ^ 32) (omega arith), number-back, type-back, lt-ltb 0 n some, lt-ltb w 6 known)
+  tag-back rest = tag-told n w rest (omega arith) (omega arith) ∙ rw tag-good
+
+-- and no others
+pub good-numbers : (n w : ℕ) → goodTag n w ≡ true → (0 < n) × (n < 2 ^ 29) × (w < 6)
+unfolding goodTag
+good-numbers n w e = by (ltb (n * 8 + w) (2 ^ 32)) (ltb 0 n) (ltb w 6) refl refl refl e
+  where
+    by : (a b c : Bool) → ltb (n * 8 + w) (2 ^ 32) ≡ a → ltb 0 n ≡ b → ltb w 6 ≡ c → a && (b && c) ≡ true → (0 < n) × (n < 2 ^ 29) × (w < 6)
+    by true true true a b c e = (ltb-true 0 n b, omega (arith, ltb-true (n * 8 + w) (2 ^ 32) a), ltb-true w 6 c)
+    by true true false a b c e = let z : ⊥ = true≢false (sym e) in absurd z
+    by true false x a b c e = let z : ⊥ = true≢false (sym e) in absurd z
+    by false x y a b c e = let z : ⊥ = true≢false (sym e) in absurd z
 
 -- ---- fields
 
@@ -138,6 +179,11 @@ signed-back (pos n) h =
 signed-back (negsuc n) h =
     let low : (2 ^ 64 - suc n) % 2 ^ 32 ≡ 2 ^ 32 - suc n = omega arith in
     rw (low, le-ltb (2 ^ 32 - suc n) (2 ^ 31) (omega arith)) (ap negsuc (omega arith))
+
+-- a negative int32, -1 - n, and what it is written as are 2^64 together
+pub signed-whole : (n : ℕ) → n < 2 ^ 31 → signExtended (negsuc n) + suc n ≡ 2 ^ 64
+unfolding signExtended
+signed-whole n h = omega arith
 
 -- what an int32 is written as fits a varint
 pub signed-fits : (z : ℤ) → mag z < 2 ^ 31 → signExtended z < 2 ^ 64

@@ -133,7 +133,7 @@ fn is_fields(s: &[u8], start: usize, end: usize, depth: u32) -> bool {
                 return false;
             }
             Tag::Field(number, wire_type, next) => {
-                let skip = wire::skip_value(s, next, end, number, wire_type, depth);
+                let skip = wire::skip_field(s, next, end, number, wire_type, depth);
                 match skip {
                     Skip::Refused(_) => {
                         return false;

@@ -9,3 +9,5 @@ pub mod Uncut
 pub mod Standing
 pub mod Faithful
 pub mod Examples
+-- Demand 1, of every public entry
+pub mod AsksNothing

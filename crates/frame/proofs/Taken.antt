@@ -62,6 +62,21 @@ module _ (st : Deframer) (d p : List ℕ) where
         go (yes l) = omega (arith, good-total (take 16 (stream (st .held) d p)) g)
         go (no l) = rw (stream-head d p (st .held) fits 16 (omega arith)) (known-good st d none known (omega arith) .1)
 
+    -- what is held is never past what the call reaches: the subtraction of `moved` does not stop at 0
+    pub held-reached : st .held ≤ reach (nextFrame (stream (st .held) d p)) (stream (st .held) d p)
+    held-reached = go (shape (stream (st .held) d p))
+      where
+        go : Shape (stream (st .held) d p) → st .held ≤ reach (nextFrame (stream (st .held) d p)) (stream (st .held) d p)
+        go (short l) = rw (next-short _ l) (omega (arith, stream-length d p (st .held) fits))
+        go (bad l b) = rw (next-bad _ l b) (by (decLt (st .held) 16))
+          where
+            by : Dec (st .held < 16) → st .held ≤ 16
+            by (yes h) = omega arith
+            by (no h) =
+                absurd (b (rw (stream-head d p (st .held) fits 16 (omega arith)) (known-good st d none known (omega arith) .0)))
+        go (part l g t) = rw (next-part _ l g t) (omega (arith, stream-length d p (st .held) fits))
+        go (whole l g t) = rw (next-whole _ l g t) (omega (arith, held-less g))
+
     reach-more : 0 < length p → isRefused (nextFrame (stream (st .held) d p)) ≡ false
         → st .held < reach (nextFrame (stream (st .held) d p)) (stream (st .held) d p)
     reach-more some r = go (shape (stream (st .held) d p))

@@ -2,7 +2,7 @@
 -- The bytes held and then the piece are the stream since the end of the last frame: all is said of that one list
 use Prim.Native.Nat.{ℕ, _-_}
 use mathlib.Core.List.{List, _++_}
-use mathlib.Core.Bool.{Bool, true, cond, _&&_}
+use mathlib.Core.Bool.{Bool, true, not, cond, _&&_}
 use lib.Dec.{eqb, ltb, leb}
 use lib.ListN.{length, take, drop}
 use Rattle.frame.specs.Header.{headerError, totalOf, maxFrame}
@@ -57,6 +57,7 @@ pub record Out : Type 0 where
   pub buffer : List ℕ
 
 -- `held` bytes of the stream s were in the buffer. "Bytes of the buffer that received nothing are unchanged."
+-- A known state holds no more than the call reaches (`held-reached`), so the subtraction does not stop at 0.
 abbrev pub moved : Progress → ℕ → List ℕ → List ℕ → Out
 moved progress held buffer s =
     record {
@@ -78,18 +79,15 @@ unmoved code state buffer = record { step = refuse code state; buffer = buffer }
 unfoldable pub deframed : Deframer → List ℕ → List ℕ → Out
 deframed state buffer piece =
     cond (ltb (length buffer) maxFrame) (unmoved 1 state buffer)
-    (cond (knownOf state buffer)
-    (cond (eqb (state .error) 0)
-    (advance (state .held) buffer (stream (state .held) buffer piece))
-    (unmoved (state .error) state buffer))
-    (unmoved 2 state buffer))
+    (cond (not (knownOf state buffer)) (unmoved 2 state buffer)
+    (cond (not (eqb (state .error) 0)) (unmoved (state .error) state buffer)
+    (advance (state .held) buffer (stream (state .held) buffer piece))))
 
--- "The end verdict, asked with state and buffer, is clean (nothing held), short with the count held, or the refusal."
+-- The codes in the same order. "The end verdict, asked with state and buffer, is clean (nothing held), short with the count held, or the refusal."
 unfoldable pub ended : Deframer → List ℕ → End
 ended state buffer =
     cond (ltb (length buffer) maxFrame) (end.Refused 1)
-    (cond (knownOf state buffer)
-    (cond (eqb (state .error) 0)
-    (cond (eqb (state .held) 0) end.Clean (end.Short (state .held)))
-    (end.Refused (state .error)))
-    (end.Refused 2))
+    (cond (not (knownOf state buffer)) (end.Refused 2)
+    (cond (not (eqb (state .error) 0)) (end.Refused (state .error))
+    (cond (eqb (state .held) 0) end.Clean
+    (end.Short (state .held)))))

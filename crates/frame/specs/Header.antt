@@ -48,7 +48,8 @@ streamTypeOk data-type stream-type = eqb data-type 0 || (leb 1 stream-type && le
 unfoldable pub totalOk : ℕ → Bool
 totalOk total = leb 16 total && leb total maxFrame
 
--- "header size | unary: at most total less 16; stream: 0"
+-- "header size | unary: at most total less 16; stream: 0". A total under 16 breaks the rule before this one, so the subtraction does not
+-- stop at 0 (`good-total`).
 unfoldable pub headerSizeOk : ℕ → ℕ → ℕ → Bool
 headerSizeOk data-type total size = cond (eqb data-type 0) (leb size (total - 16)) (eqb size 0)
 

@@ -25,7 +25,8 @@ before frame u = record { frames = frame ∷ u .frames; end = u .end }
 
 -- "With under 16 bytes left it stops: clean if none, else short with their number. If the judge refuses the next 16, it stops with that
 -- number, whatever follows. If their total exceeds what is left, it stops: short with the number left. Otherwise the next bytes, as many
--- as the total, are a frame, .. and it goes on behind them." At most `fuel` steps
+-- as the total, are a frame, .. and it goes on behind them." At most `fuel` steps: `uncut` has more than it needs, and by `enough` how many more
+-- says nothing, so the clause for no fuel is never reached
 unfoldable pub uncutIn : ℕ → List ℕ → Uncut
 uncutIn zero s = stops Clean
 uncutIn (suc fuel) s =

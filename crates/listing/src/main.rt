@@ -6,6 +6,7 @@
 mod text;
 
 use frame::Deframer;
+use frame::FixedHeader;
 use frame::Parsed;
 use frame::Progress;
 use frame::Step;
@@ -14,9 +15,12 @@ use libc::STDOUT_FILENO;
 ghost use mathlib.Core.Path.{_≡_};
 ghost use mathlib.Core.Bool.{true, false};
 ghost use Prim.Native.Nat.{_+_, _≤_, _<_};
-ghost use lib.ListN.{length};
+ghost use lib.ListN.{length, take, drop};
+ghost use Rattle.frame.specs.Header.{parsed, maxFrame};
+ghost use Rattle.frame.specs.Deframe.{deframed, ended};
 ghost use Rattle.frame.specs.Calls.{isRefused};
-ghost use Rattle.listing.specs.{maxLine, Text};
+ghost use Rattle.listing.specs.Lines.{frameLine, endLine, maxLine, Adds};
+ghost use Rattle.listing.specs.Steps.{Text, start, withDeframer, nextNumber, kept, ListsFrame, ListsEnd, ListsStep, ListsPiece};
 
 // What is kept from piece to piece: the deframer's state, how many frames were listed, how many bytes of the text are not
 // printed yet, and whether the program is done.
@@ -37,14 +41,9 @@ fn main() {
 // A proved loop has to end, and nothing says that the input does. So the loop counts its reads down, from a number that no
 // run uses up.
 fn list(piece: &mut [u8], buffer: &mut [u8], text: &mut [u8])
-    requires { ⌜ (16 ≤ length (now buffer)) × Text 0 (now text) ⌝ }
+    requires { ⌜ (maxFrame ≤ length (now buffer)) × Text 0 (now text) ⌝ }
 {
-    let mut listing = Listing {
-        deframer: Deframer { held: 0, error: 0 },
-        frames: 0,
-        pending: 0,
-        done: false,
-    };
+    let mut listing = fresh();
     let mut reads = u64::MAX;
     while 0 < reads && !listing.done {
         listing = list_next(listing, piece, buffer, text);
@@ -52,9 +51,21 @@ fn list(piece: &mut [u8], buffer: &mut [u8], text: &mut [u8])
     }
 }
 
+// Before the first byte.
+fn fresh() -> Listing
+    ensures { λ r. ⌜ r ≡ start ⌝ }
+{
+    Listing {
+        deframer: Deframer { held: 0, error: 0 },
+        frames: 0,
+        pending: 0,
+        done: false,
+    }
+}
+
 // Reads a piece and lists the frames that end in it, or at the end of the input lists the end.
 fn list_next(listing: Listing, piece: &mut [u8], buffer: &mut [u8], text: &mut [u8]) -> Listing
-    requires { ⌜ (16 ≤ length (now buffer)) × Text (listing .pending) (now text) ⌝ }
+    requires { ⌜ (maxFrame ≤ length (now buffer)) × Text (listing .pending) (now text) ⌝ }
     ensures { λ r. ⌜ r .pending ≤ length (now (text .entry)) ⌝ }
 {
     let got = libc::read(STDIN_FILENO, piece);
@@ -75,8 +86,10 @@ fn list_next(listing: Listing, piece: &mut [u8], buffer: &mut [u8], text: &mut [
 
 // Lists the frames that end in the piece. A refused header in it is the end of what is listed.
 fn list_piece(listing: Listing, piece: &[u8], buffer: &mut [u8], text: &mut [u8]) -> Listing
-    requires { ⌜ (16 ≤ length (now buffer)) × Text (listing .pending) (now text) ⌝ }
+    requires { ⌜ (maxFrame ≤ length (now buffer)) × Text (listing .pending) (now text) ⌝ }
     ensures { λ r. ⌜ r .pending ≤ length (now (text .entry)) ⌝ }
+    ensures { λ r. ⌜ ListsPiece (now (piece .entry)) listing (now (buffer .entry)) (now (text .entry)) r
+        (now (buffer .exit)) (now (text .exit)) ⌝ }
 {
     let mut listed = listing;
     let mut from = 0;
@@ -94,6 +107,8 @@ fn list_piece(listing: Listing, piece: &[u8], buffer: &mut [u8], text: &mut [u8]
 // Hands the rest of the piece to the deframer, which takes at least a byte of it unless it refuses a header.
 fn deframe_rest(deframer: Deframer, buffer: &mut [u8], piece: &[u8], from: usize) -> Step
     requires { ⌜ from < length (now piece) ⌝ }
+    ensures { λ r. ⌜ r ≡ deframed deframer (now (buffer .entry)) (drop from (now (piece .entry))) .step ⌝ }
+    ensures { λ r. ⌜ now (buffer .exit) ≡ deframed deframer (now (buffer .entry)) (drop from (now (piece .entry))) .buffer ⌝ }
     ensures { λ r. ⌜ (from + r .taken ≤ length (now (piece .entry))) × (isRefused (r .progress) ≡ false → 0 < r .taken) ⌝ }
 {
     frame::deframe(deframer, buffer, &piece[from..])
@@ -101,8 +116,9 @@ fn deframe_rest(deframer: Deframer, buffer: &mut [u8], piece: &[u8], from: usize
 
 // Lists what a call of the deframer came to.
 fn list_step(listing: Listing, step: Step, buffer: &[u8], text: &mut [u8]) -> Listing
-    requires { ⌜ (16 ≤ length (now buffer)) × Text (listing .pending) (now text) ⌝ }
-    ensures { λ r. ⌜ (r .pending ≤ length (now (text .entry))) × (r .done ≡ false → isRefused (step .progress) ≡ false) ⌝ }
+    requires { ⌜ (maxFrame ≤ length (now buffer)) × Text (listing .pending) (now text) ⌝ }
+    ensures { λ r. ⌜ (r .pending ≤ length (now (text .entry))) × (r .done ≡ false → isRefused (step .progress) ≡ false)
+        × ListsStep (step .progress) (now (buffer .entry)) (withDeframer listing (step .next)) (now (text .entry)) r (now (text .exit)) ⌝ }
 {
     let next = step.next;
     let progress = step.progress;
@@ -119,16 +135,25 @@ fn list_step(listing: Listing, step: Step, buffer: &[u8], text: &mut [u8]) -> Li
     }
 }
 
-// Adds the line of the frame at the start of the buffer, whose header the deframer found good.
+// Lists the frame at the start of the buffer, whose header the deframer found good.
 fn list_frame(listing: Listing, buffer: &[u8], text: &mut [u8]) -> Listing
-    requires { ⌜ (16 ≤ length (now buffer)) × Text (listing .pending) (now text) ⌝ }
-    ensures { λ r. ⌜ r .pending ≤ length (now (text .entry)) ⌝ }
+    requires { ⌜ (maxFrame ≤ length (now buffer)) × Text (listing .pending) (now text) ⌝ }
+    ensures { λ r. ⌜ (r .pending ≤ length (now (text .entry)))
+        × ListsFrame (parsed (take 16 (now (buffer .entry)))) listing (now (text .entry)) r (now (text .exit)) ⌝ }
 {
     let Parsed::Good(header) = frame::parse_header(&buffer[..frame::HEADER]) else {
         return listing;
     };
-    let mut listed = with_room(listing, text);
-    // No stream has 2^64 frames, so the number does not wrap.
+    add_frame(with_room(listing, text), header, text)
+}
+
+// Adds a frame's line to what is to be printed.
+fn add_frame(listing: Listing, header: FixedHeader, text: &mut [u8]) -> Listing
+    requires { ⌜ listing .pending + maxLine ≤ length (now text) ⌝ }
+    ensures { λ r. ⌜ (r .pending ≤ length (now (text .entry))) × (r .frames ≡ nextNumber listing) × (r .deframer ≡ listing .deframer)
+        × Adds (frameLine (nextNumber listing) header) (now (text .entry)) (listing .pending) (now (text .exit)) (r .pending) ⌝ }
+{
+    let mut listed = listing;
     listed.frames = std::num::wrapping_add_u64(listed.frames, 1);
     listed.pending = text::frame_line(text, listed.pending, listed.frames, header);
     listed
@@ -136,22 +161,31 @@ fn list_frame(listing: Listing, buffer: &[u8], text: &mut [u8]) -> Listing
 
 // Prints what is left to print, and the line that says how the stream ended.
 fn list_end(listing: Listing, buffer: &[u8], text: &mut [u8]) -> Listing
-    requires { ⌜ Text (listing .pending) (now text) ⌝ }
-    ensures { λ r. ⌜ (r .pending ≤ length (now (text .entry))) × (r .done ≡ true) ⌝ }
+    requires { ⌜ (maxFrame ≤ length (now buffer)) × Text (listing .pending) (now text) ⌝ }
+    ensures { λ r. ⌜ ListsEnd (now (buffer .entry)) listing (now (text .entry)) r (now (text .exit)) ⌝ }
 {
-    let mut listed = with_room(listing, text);
-    if listed.done {
-        return listed;
-    }
+    let listed = add_end(with_room(listing, text), buffer, text);
+    stopped(print(listed, text))
+}
+
+// Adds the end line to what is to be printed.
+fn add_end(listing: Listing, buffer: &[u8], text: &mut [u8]) -> Listing
+    requires { ⌜ listing .pending + maxLine ≤ length (now text) ⌝ }
+    ensures { λ r. ⌜ (r .pending ≤ length (now (text .entry)))
+        × Adds (endLine (ended (listing .deframer) (now (buffer .entry)))) (now (text .entry)) (listing .pending)
+        (now (text .exit)) (r .pending) ⌝ }
+{
+    let mut listed = listing;
     let end = frame::finish(listed.deframer, buffer);
     listed.pending = text::end_line(text, listed.pending, end);
-    stopped(print(listed, text))
+    listed
 }
 
 // Prints the text first where it has no room for another line.
 fn with_room(listing: Listing, text: &[u8]) -> Listing
     requires { ⌜ Text (listing .pending) (now text) ⌝ }
-    ensures { λ r. ⌜ r .pending + maxLine ≤ length (now (text .entry)) ⌝ }
+    ensures { λ r. ⌜ (r .pending + maxLine ≤ length (now (text .entry))) × (r .frames ≡ listing .frames) × (r .deframer ≡ listing .deframer)
+        × (r .pending ≡ kept listing (now (text .entry))) ⌝ }
 {
     if text::LINE <= text.len() - listing.pending {
         return listing;
@@ -159,13 +193,17 @@ fn with_room(listing: Listing, text: &[u8]) -> Listing
     print(listing, text)
 }
 
+// Prints the text, unless a write failed before.
 fn print(listing: Listing, text: &[u8]) -> Listing
     requires { ⌜ listing .pending ≤ length (now text) ⌝ }
-    ensures { λ r. ⌜ r .pending ≡ 0 ⌝ }
+    ensures { λ r. ⌜ (r .pending ≡ 0) × (r .frames ≡ listing .frames) × (r .deframer ≡ listing .deframer) ⌝ }
 {
     let pending = listing.pending;
     let mut printed = listing;
     printed.pending = 0;
+    if listing.done {
+        return printed;
+    }
     if !io::write_all(STDOUT_FILENO, &text[..pending]) {
         os::fail(b"listing: standard output");
         printed.done = true;

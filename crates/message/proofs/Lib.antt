@@ -1,6 +1,5 @@
--- That spans name the parts, and document 01's examples
+-- That spans name the parts
 pub mod SpansStand
-pub mod Examples
 -- For the layers above
 pub mod Readings
 -- For the proofs of this crate's functions
@@ -9,3 +8,5 @@ mod Headers
 mod PartPlaces
 mod Messages
 mod WholeFrames
+-- Demand 1, of every public entry
+pub mod AsksNothing

@@ -8,24 +8,26 @@ use lib.ListN.{length, drop, replicate, length-drop}
 use lib.Seq.{length-take-le}
 use Rattle.frame.specs.Header.{headerSizeOf, idOf}
 use Rattle.wire.specs.Part.{part}
-use Rattle.decoder.specs.Rows.{Row, rowNumbers, laidOut, cleared}
+use Rattle.decoder.specs.Schema.{schemaAt}
+use Rattle.decoder.specs.Rows.{Row, rowNumbers, laidOut, rowsCleared}
 use Rattle.decoder.specs.Fields.{State, Result, ok, refused, readMessage}
-use Rattle.decoder.specs.Decoding.{schemaAt, decoded}
+use Rattle.decoder.specs.Decoding.{decoded}
 use Rattle.decoder.specs.declared.Decoded.{Decoded}
 use Rattle.decoder.proofs.RowLaws.{drop-laid, length-laid}
 use Rattle.decoder.proofs.Answers.{Gives, Read, Decodes, decodes, all-cleared}
 use Rattle.message.specs.Records.{schemaOf, recordOf, attachmentSizeOf}
-use Rattle.message.specs.Frames.{Reading, headerOf, bodyOf, lastOf, untouched, finished, answered, readFrame}
+use Rattle.message.specs.Frames.{Reading, headerOf, bodyOf, lastBytes, refusedUntouched, withAttachment, answered, readFrame}
 use Rattle.message.specs.Spans.{spanFrom}
 use Rattle.message.specs.Parts.{PartsOf, noParts, bodyAt, Whole}
 use Rattle.message.specs.declared.Kind.{Kind}
+use Rattle.message.specs.declared.Answer.the-variants as answers
 use Rattle.message.specs.declared.Record.{Record}
 use Rattle.message.specs.declared.frames.Parts.{Parts}
 use Rattle.message.proofs.Readings.{its-message}
-use Rattle.message.proofs.PartPlaces.{frame-size, within, header-part, body-rest}
+use Rattle.message.proofs.PartPlaces.{frame-size, within, length-last, header-part, body-rest}
 
 -- ---- a refusal
-none : (code size : ℕ) (numbers : List ℕ) → PartsOf (untouched code numbers) size (noParts code) numbers
+none : (code size : ℕ) (numbers : List ℕ) → PartsOf (refusedUntouched code numbers) size (noParts code) numbers
 none code size numbers =
     record {
       answer-is = refl;
@@ -36,9 +38,9 @@ none code size numbers =
       attachment-at = refl;
     }
 
-pub refusal : {x : Reading} {size : ℕ} {numbers : List ℕ} {p : Parts} {code : ℕ} → x ≡ untouched code numbers → p ≡ noParts code → PartsOf x size p numbers
+pub refusal : {x : Reading} {size : ℕ} {numbers : List ℕ} {p : Parts} {code : ℕ} → x ≡ refusedUntouched code numbers → p ≡ noParts code → PartsOf x size p numbers
 refusal {size} {numbers} {p} {code} e g =
-    subst (λ (x : Reading). PartsOf x size p numbers) (sym e) (subst (λ (p : Parts). PartsOf (untouched code numbers) size p numbers) (sym g) (none code size numbers))
+    subst (λ (x : Reading). PartsOf x size p numbers) (sym e) (subst (λ (p : Parts). PartsOf (refusedUntouched code numbers) size p numbers) (sym g) (none code size numbers))
 
 -- ---- what the decoder's answer tells of the reading x of a message
 abbrev error-of : Decoded → ℕ
@@ -61,7 +63,7 @@ succeeded (ok st) d numbers lent r e = (st, refl, r)
 succeeded (refused code) d numbers lent r e = absurd (omega (arith, ap error-of (r .answer-is), r .some-code))
 
 -- rows that are cleared again
-cleared-again : (rows : List Row) (lent : List ℕ) → length rows ≤ 64 → rowNumbers ≤ length lent → cleared (laidOut rows lent) ≡ laidOut [] lent
+cleared-again : (rows : List Row) (lent : List ℕ) → length rows ≤ 64 → rowNumbers ≤ length lent → rowsCleared (laidOut rows lent) ≡ laidOut [] lent
 cleared-again rows lent few long =
     all-cleared (laidOut rows lent) (rw (length-laid rows lent few long) long)
     ∙ ap (λ (x : List ℕ). replicate rowNumbers 0 ++ x) (drop-laid rows lent few)
@@ -70,17 +72,17 @@ cleared-again rows lent few long =
 module _ (kind : Kind) (f lent : List ℕ) (st : State) where
   attached : attachmentSizeOf kind (st .slots) ≤ length (bodyOf kind f)
       → answered kind f lent (ok st) ≡ record {
-        answer = recordOf kind (idOf f) (st .slots) (length (st .rows));
+        answer = answers.Read (recordOf kind (idOf f) (st .slots) (length (st .rows)));
         header = headerOf kind f;
         body = bodyOf kind f;
-        attachment = lastOf (attachmentSizeOf kind (st .slots)) (bodyOf kind f);
+        attachment = lastBytes (attachmentSizeOf kind (st .slots)) (bodyOf kind f);
         rows = laidOut (st .rows) lent;
       }
-  unfolding answered finished
+  unfolding answered withAttachment
   attached h = rw (le-leb (attachmentSizeOf kind (st .slots)) (length (bodyOf kind f)) h)
 
-  too-large : length (bodyOf kind f) < attachmentSizeOf kind (st .slots) → answered kind f lent (ok st) ≡ untouched 15 (laidOut [] lent)
-  unfolding answered finished
+  too-large : length (bodyOf kind f) < attachmentSizeOf kind (st .slots) → answered kind f lent (ok st) ≡ refusedUntouched 15 (laidOut [] lent)
+  unfolding answered withAttachment
   too-large h = rw (lt-leb (attachmentSizeOf kind (st .slots)) (length (bodyOf kind f)) h)
 
 same-record : (kind : Kind) {id id′ rows rows′ : ℕ} {slots slots′ : List ℕ} → id ≡ id′ → slots ≡ slots′ → rows ≡ rows′
@@ -132,28 +134,28 @@ module _ (kind : Kind) (f lent : List ℕ) (size id body n : ℕ) (d : Decoded) 
   pub fields-refused : {p : Parts} → (d .error ≡ 0 → ⊥) → p ≡ noParts (d .error) → PartsOf (readFrame kind f lent) (length f) p numbers
   unfolding answered
   fields-refused n g =
-      let (e, cleared) = failed result d numbers lent its n in
-      refusal (answer ∙ ap (answered kind f lent) e ∙ ap (untouched (d .error)) (sym cleared)) g
+      let (e, zeros) = failed result d numbers lent its n in
+      refusal (answer ∙ ap (answered kind f lent) e ∙ ap (refusedUntouched (d .error)) (sym zeros)) g
 
   pub attachment-refused : {p : Parts} {a : ℕ} {last : List ℕ} → d .error ≡ 0 → a ≡ attachmentSizeOf kind (d .slots .values) → length f - body < a
-      → last ≡ cleared numbers → p ≡ noParts 15 → PartsOf (readFrame kind f lent) (length f) p last
+      → last ≡ rowsCleared numbers → p ≡ noParts 15 → PartsOf (readFrame kind f lent) (length f) p last
   attachment-refused {a} e is-a large last g =
       let (st, x, r) = succeeded result d numbers lent its e in
       let a-is : a ≡ attachmentSizeOf kind (st .slots) = is-a ∙ ap (attachmentSizeOf kind) (ap values-of (r .answer-is)) in
-      let same = last ∙ ap cleared (r .laid) ∙ cleared-again (st .rows) lent (r .few) rows in
+      let same = last ∙ ap rowsCleared (r .laid) ∙ cleared-again (st .rows) lent (r .few) rows in
       refusal
-      (answer ∙ ap (answered kind f lent) x ∙ too-large kind f lent st (omega (arith, body-length, a-is)) ∙ ap (untouched 15) (sym same))
+      (answer ∙ ap (answered kind f lent) x ∙ too-large kind f lent st (omega (arith, body-length, a-is)) ∙ ap (refusedUntouched 15) (sym same))
       g
 
   pub message-read : {r : Record} {a : ℕ} → d .error ≡ 0 → a ≡ attachmentSizeOf kind (d .slots .values) → a ≤ length f - body
       → r ≡ recordOf kind id (d .slots .values) (d .slots .rows)
-      → PartsOf (readFrame kind f lent) (length f) (record { answer = r; places = record { header = 16; body = body; attachment = length f - a; end = length f } }) numbers
+      → PartsOf (readFrame kind f lent) (length f) (record { answer = answers.Read r; places = record { header = 16; body = body; attachment = length f - a; end = length f } }) numbers
   message-read {a} e is-a fits is-r =
       let (st, x, k) = succeeded result d numbers lent its e in
       let a-is : a ≡ attachmentSizeOf kind (st .slots) = is-a ∙ ap (attachmentSizeOf kind) (ap values-of (k .answer-is)) in
       let all = answer ∙ ap (answered kind f lent) x ∙ attached kind f lent st (omega (arith, body-length, a-is)) in
       rw all (record {
-        answer-is = is-r ∙ same-record kind (whole .id-is) (ap values-of (k .answer-is)) (ap rows-of (k .answer-is));
+        answer-is = ap answers.Read (is-r ∙ same-record kind (whole .id-is) (ap values-of (k .answer-is)) (ap rows-of (k .answer-is)));
         rows-are = k .laid;
         small = omega (arith, bounds, frame-size kind f size id whole);
         header-at = ap (spanFrom 16) (sym header-length);
@@ -161,5 +163,5 @@ module _ (kind : Kind) (f lent : List ℕ) (size id body n : ℕ) (d : Decoded) 
         attachment-at =
             end-span
             (omega arith)
-            (length-drop (length (bodyOf kind f) - attachmentSizeOf kind (st .slots)) (bodyOf kind f) ∙ omega (arith, body-length, a-is, bounds));
+            (length-last (attachmentSizeOf kind (st .slots)) (bodyOf kind f) (omega (arith, body-length, a-is)) ∙ omega (arith, a-is, bounds));
       })

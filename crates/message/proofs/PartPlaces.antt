@@ -1,14 +1,14 @@
 -- Where the parts of a whole frame stand
 use Prim.Native.Nat.{ℕ, _+_, _-_, _≤_}
-use mathlib.Core.Path.{_≡_, refl, sym}
+use mathlib.Core.Path.{_≡_, refl, sym, _∙_}
 use mathlib.Core.List.{List}
 use native.Mathlib.Omega.{arith}
-use lib.ListN.{length, drop}
+use lib.ListN.{length, drop, length-drop}
 use lib.Seq.{drop-length}
 use Rattle.frame.specs.Header.{maxFrame, headerSizeOf}
 use Rattle.wire.specs.Part.{part}
 use Rattle.decoder.proofs.PartEnds.{part-rest}
-use Rattle.message.specs.Frames.{headerOf, bodyOf}
+use Rattle.message.specs.Frames.{headerOf, bodyOf, lastBytes}
 use Rattle.message.specs.Parts.{bodyAt, Whole}
 use Rattle.message.specs.declared.Kind.{Kind}
 use Rattle.message.specs.declared.Kind.the-variants as kinds
@@ -34,6 +34,10 @@ body-within kinds.Close size n h = omega arith
 pub within : (kind : Kind) (f : List ℕ) (size id : ℕ) → Whole kind f size id → (body : ℕ) → body ≡ bodyAt kind size (length f)
     → (16 ≤ body) × (body ≤ length f)
 within kind f size id whole body e = rw e (body-within kind size (length f) (header-size kind f size id whole))
+
+-- "the last attachment_size bytes of the body", where it has as many
+pub length-last : (n : ℕ) (body : List ℕ) → n ≤ length body → length (lastBytes n body) ≡ n
+length-last n body h = length-drop (length body - n) body ∙ omega arith
 
 -- the header up to the body
 pub header-part : (kind : Kind) (f : List ℕ) → part f 16 (bodyAt kind (headerSizeOf f) (length f)) ≡ headerOf kind f

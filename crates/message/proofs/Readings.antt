@@ -9,29 +9,29 @@ use Rattle.frame.specs.Header.{headerError, totalOf}
 use Rattle.decoder.specs.Fields.{readMessage}
 use Rattle.decoder.specs.Rows.{rowNumbers}
 use Rattle.message.specs.Records.{schemaOf}
-use Rattle.message.specs.Frames.{headerOf, kindFits, untouched, answered, readFrame}
+use Rattle.message.specs.Frames.{headerOf, kindFits, refusedUntouched, answered, readFrame}
 use Rattle.message.specs.declared.Kind.{Kind}
 
-pub few-rows : (kind : Kind) (f lent : List ℕ) → length lent < rowNumbers → readFrame kind f lent ≡ untouched 16 lent
+pub few-rows : (kind : Kind) (f lent : List ℕ) → length lent < rowNumbers → readFrame kind f lent ≡ refusedUntouched 16 lent
 unfolding readFrame
 few-rows kind f lent h = rw (lt-ltb (length lent) rowNumbers h)
 
 module _ (kind : Kind) (f lent : List ℕ) (rows : rowNumbers ≤ length lent) where
-  pub short : length f < 16 → readFrame kind f lent ≡ untouched 9 lent
+  pub short : length f < 16 → readFrame kind f lent ≡ refusedUntouched 9 lent
   unfolding readFrame
   short h = rw (le-ltb (length lent) rowNumbers rows, lt-ltb (length f) 16 h)
 
-  pub bad-header : 16 ≤ length f → (headerError (take 16 f) ≡ 0 → ⊥) → readFrame kind f lent ≡ untouched (headerError (take 16 f)) lent
+  pub bad-header : 16 ≤ length f → (headerError (take 16 f) ≡ 0 → ⊥) → readFrame kind f lent ≡ refusedUntouched (headerError (take 16 f)) lent
   unfolding readFrame
   bad-header long n = rw (le-ltb (length lent) rowNumbers rows, le-ltb (length f) 16 long, ne-eqb (headerError (take 16 f)) 0 n)
 
   module _ (long : 16 ≤ length f) (good : headerError (take 16 f) ≡ 0) where
-    pub not-whole : (length f ≡ totalOf f → ⊥) → readFrame kind f lent ≡ untouched 9 lent
+    pub not-whole : (length f ≡ totalOf f → ⊥) → readFrame kind f lent ≡ refusedUntouched 9 lent
     unfolding readFrame
     not-whole n =
         rw (le-ltb (length lent) rowNumbers rows, le-ltb (length f) 16 long, eq-eqb (headerError (take 16 f)) 0 good, ne-eqb (length f) (totalOf f) n)
 
-    pub other-kind : length f ≡ totalOf f → kindFits kind (getD f 2 0) (getD f 3 0) ≡ false → readFrame kind f lent ≡ untouched 9 lent
+    pub other-kind : length f ≡ totalOf f → kindFits kind (getD f 2 0) (getD f 3 0) ≡ false → readFrame kind f lent ≡ refusedUntouched 9 lent
     unfolding readFrame
     other-kind e k =
         rw (le-ltb (length lent) rowNumbers rows, le-ltb (length f) 16 long, eq-eqb (headerError (take 16 f)) 0 good, eq-eqb (length f) (totalOf f) e, k)

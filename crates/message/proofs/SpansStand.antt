@@ -13,8 +13,9 @@ use Rattle.frame.specs.Header.{headerError, totalOf, headerSizeOf, idOf}
 use Rattle.decoder.specs.Rows.{rowNumbers, laidOut}
 use Rattle.decoder.specs.Fields.{Result, ok, refused, readMessage}
 use Rattle.message.specs.Records.{schemaOf, recordOf, attachmentSizeOf}
-use Rattle.message.specs.Frames.{Reading, headerOf, bodyOf, lastOf, kindFits, untouched, finished, answered, readFrame}
+use Rattle.message.specs.Frames.{Reading, headerOf, bodyOf, lastBytes, kindFits, refusedUntouched, withAttachment, answered, readFrame}
 use Rattle.message.specs.Spans.{spanFrom, bytesAt, spansOf}
+use Rattle.message.specs.declared.Answer.the-variants.{Read}
 use Rattle.message.specs.declared.Kind.{Kind}
 use Rattle.message.specs.declared.Kind.the-variants as kinds
 
@@ -69,8 +70,8 @@ module _ (f : List ℕ) where
         attachment-stands = end-there f (x .attachment) k a;
       }
 
-  no-parts : (code : ℕ) (lent : List ℕ) → Stands f (untouched code lent)
-  no-parts code lent = there (untouched code lent) 0 (length f) (length f) refl (sym (drop-length f)) (sym (drop-length f))
+  no-parts : (code : ℕ) (lent : List ℕ) → Stands f (refusedUntouched code lent)
+  no-parts code lent = there (refusedUntouched code lent) 0 (length f) (length f) refl (sym (drop-length f)) (sym (drop-length f))
 
   header-from : (kind : Kind) → (n : ℕ) × (headerOf kind f ≡ take n (drop 16 f))
   unfolding headerOf
@@ -90,7 +91,7 @@ module _ (f : List ℕ) where
   body-from kinds.Feedback = (length f, sym (drop-length f))
   body-from kinds.Close = (length f, sym (drop-length f))
 
-  last-from : (n : ℕ) (body : List ℕ) (m : ℕ) → body ≡ drop m f → lastOf n body ≡ drop (m + (length body - n)) f
+  last-from : (n : ℕ) (body : List ℕ) (m : ℕ) → body ≡ drop m f → lastBytes n body ≡ drop (m + (length body - n)) f
   last-from n body m e = ap (drop (length body - n)) e ∙ drop-drop (length body - n) m f
 
   either : (b : Bool) {x y : Reading} → Stands f x → Stands f y → Stands f (cond b x y)
@@ -99,7 +100,7 @@ module _ (f : List ℕ) where
 
   module _ (kind : Kind) (lent : List ℕ) where
     of-result : (x : Result) → Stands f (answered kind f lent x)
-    unfolding answered finished
+    unfolding answered withAttachment
     of-result (ok st) =
         let (n, h) = header-from kind in
         let (m, b) = body-from kind in
@@ -107,10 +108,10 @@ module _ (f : List ℕ) where
         either
         (leb size (length (bodyOf kind f)))
         (there (record {
-          answer = recordOf kind (idOf f) (st .slots) (length (st .rows));
+          answer = Read (recordOf kind (idOf f) (st .slots) (length (st .rows)));
           header = headerOf kind f;
           body = bodyOf kind f;
-          attachment = lastOf size (bodyOf kind f);
+          attachment = lastBytes size (bodyOf kind f);
           rows = laidOut (st .rows) lent;
         }) n m (m + (length (bodyOf kind f) - size)) h b (last-from size (bodyOf kind f) m b))
         (no-parts 15 (laidOut [] lent))

@@ -7,7 +7,7 @@ use lib.ListN.{length, take, getD}
 use Rattle.frame.specs.Header.{parsed}
 use Rattle.frame.specs.declared.FixedHeader.{FixedHeader}
 use Rattle.frame.specs.declared.Parsed.the-variants.{Good, Refused}
-use Rattle.message.specs.Frames.{kindFits, untouched, readFrame}
+use Rattle.message.specs.Frames.{kindFits, refusedUntouched, readFrame}
 use Rattle.decoder.specs.Rows.{rowNumbers}
 use Rattle.message.specs.Parts.{PartsOf, noParts, Whole}
 use Rattle.message.specs.declared.Kind.{Kind}
@@ -20,7 +20,7 @@ module _ (kind : Kind) (f lent : List ℕ) (rows : rowNumbers ≤ length lent) (
   pub header-refused : {p : Parts} (code : ℕ) → Refused code ≡ parsed (take 16 f) → p ≡ noParts code → PartsOf (readFrame kind f lent) (length f) p lent
   header-refused code e g =
       let (bad, code-is) = parsed-refused f code e in
-      refusal (bad-header kind f lent rows long bad ∙ ap (λ (n : ℕ). untouched n lent) (sym code-is)) g
+      refusal (bad-header kind f lent rows long bad ∙ ap (λ (n : ℕ). refusedUntouched n lent) (sym code-is)) g
 
   module _ (x : FixedHeader) (good : Good x ≡ parsed (take 16 f)) where
     pub size-refused : {p : Parts} → (length f ≡ x .total → ⊥) → p ≡ noParts 9 → PartsOf (readFrame kind f lent) (length f) p lent

@@ -10,12 +10,12 @@ use Rattle.decoder.specs.Rows.{rowNumbers, laidOut}
 use Rattle.message.specs.Records.{schemaOf, recordOf, attachmentSizeOf}
 use Rattle.message.specs.declared.Kind.{Kind}
 use Rattle.message.specs.declared.Kind.the-variants as kinds
-use Rattle.message.specs.declared.Record.{Record}
-use Rattle.message.specs.declared.Record.the-variants.{Refused}
+use Rattle.message.specs.declared.Answer.{Answer}
+use Rattle.message.specs.declared.Answer.the-variants.{Read, Refused}
 
 -- what is handed back: the record or the error code, header, body and attachment as bytes, and the row numbers afterwards
 pub record Reading : Type 0 where
-  pub answer : Record
+  pub answer : Answer
   pub header : List ℕ
   pub body : List ℕ
   pub attachment : List ℕ
@@ -40,9 +40,10 @@ bodyOf kinds.Data f = drop 16 f
 bodyOf kinds.Feedback f = []
 bodyOf kinds.Close f = []
 
--- "The attachment is the last attachment_size bytes of the body."
-abbrev pub lastOf : ℕ → List ℕ → List ℕ
-lastOf n body = drop (length body - n) body
+-- "The attachment is the last attachment_size bytes of the body." A larger one is refused with 15 (`withAttachment`), so the subtraction is
+-- not cut off: `length-last` in proofs/PartPlaces.
+abbrev pub lastBytes : ℕ → List ℕ → List ℕ
+lastBytes n body = drop (length body - n) body
 
 -- ---- "the wrong kind of frame": "the caller of the reader names which of the six kinds it expects, for stream frames too"
 -- the data type and the stream type of a kind; the stream type of a unary frame is ignored
@@ -56,38 +57,38 @@ kindFits kinds.Close d t = eqb d 1 && eqb t 4
 
 -- ---- reading a frame
 -- "empty if refused"; "all others leave rows untouched"
-abbrev pub untouched : ℕ → List ℕ → Reading
-untouched code lent = record { answer = Refused code; header = []; body = []; attachment = []; rows = lent }
+abbrev pub refusedUntouched : ℕ → List ℕ → Reading
+refusedUntouched code lent = record { answer = Refused code; header = []; body = []; attachment = []; rows = lent }
 
 -- "A reader's refusals 10 to 15 leave the first 256 row numbers 0"
-abbrev pub cleared : ℕ → List ℕ → Reading
-cleared code lent = record { answer = Refused code; header = []; body = []; attachment = []; rows = laidOut [] lent }
+abbrev pub refusedCleared : ℕ → List ℕ → Reading
+refusedCleared code lent = record { answer = Refused code; header = []; body = []; attachment = []; rows = laidOut [] lent }
 
 -- "15 | attachment larger than body", "15 last"
-unfoldable pub finished : Kind → List ℕ → List ℕ → State → Reading
-finished kind f lent st =
+unfoldable pub withAttachment : Kind → List ℕ → List ℕ → State → Reading
+withAttachment kind f lent st =
     cond (leb (attachmentSizeOf kind (st .slots)) (length (bodyOf kind f)))
     (record {
-      answer = recordOf kind (idOf f) (st .slots) (length (st .rows));
+      answer = Read (recordOf kind (idOf f) (st .slots) (length (st .rows)));
       header = headerOf kind f;
       body = bodyOf kind f;
-      attachment = lastOf (attachmentSizeOf kind (st .slots)) (bodyOf kind f);
+      attachment = lastBytes (attachmentSizeOf kind (st .slots)) (bodyOf kind f);
       rows = laidOut (st .rows) lent;
     })
-    (cleared 15 lent)
+    (refusedCleared 15 lent)
 
 -- what a message that was read, or refused, comes to
 unfoldable pub answered : Kind → List ℕ → List ℕ → Result → Reading
-answered kind f lent (refused code) = cleared code lent
-answered kind f lent (ok st) = finished kind f lent st
+answered kind f lent (refused code) = refusedCleared code lent
+answered kind f lent (ok st) = withAttachment kind f lent st
 
 -- "Reader: 16; fewer than 16 bytes is 9; 3 to 8; 9; then fields from left to right, ..; 15 last."
 unfoldable pub readFrame : Kind → List ℕ → List ℕ → Reading
 readFrame kind f lent =
-    cond (ltb (length lent) rowNumbers) (untouched 16 lent)
-    (cond (ltb (length f) 16) (untouched 9 lent)
+    cond (ltb (length lent) rowNumbers) (refusedUntouched 16 lent)
+    (cond (ltb (length f) 16) (refusedUntouched 9 lent)
     (cond (eqb (headerError (take 16 f)) 0)
     (cond (eqb (length f) (totalOf f) && kindFits kind (getD f 2 0) (getD f 3 0))
     (answered kind f lent (readMessage f (schemaOf kind) 16 (headerOf kind f)))
-    (untouched 9 lent))
-    (untouched (headerError (take 16 f)) lent)))
+    (refusedUntouched 9 lent))
+    (refusedUntouched (headerError (take 16 f)) lent)))

@@ -9,10 +9,11 @@ use Rattle.message.specs.Frames.{Reading, kindFits}
 use Rattle.message.specs.Spans.{spanFrom, spansOf}
 use Rattle.message.specs.declared.Kind.{Kind}
 use Rattle.message.specs.declared.Kind.the-variants as kinds
-use Rattle.message.specs.declared.Record.the-variants.{Refused}
+use Rattle.message.specs.declared.Answer.the-variants.{Refused}
 use Rattle.message.specs.declared.frames.Parts.{Parts}
 
--- The record and the row numbers are those of the reading x of a frame of that size, and the places are those of its spans.
+-- The record and the row numbers are those of the reading x of a frame of that size, and the places are those of its spans. The places
+-- rise (`within` in proofs/PartPlaces), and a refusal has zeros: no subtraction is cut off.
 pub record PartsOf (x : Reading) (size : ℕ) (p : Parts) (numbers : List ℕ) : Type 0 where
   pub answer-is : p .answer ≡ x .answer
   pub rows-are : numbers ≡ x .rows
@@ -25,7 +26,7 @@ pub record PartsOf (x : Reading) (size : ℕ) (p : Parts) (numbers : List ℕ) :
 abbrev pub noParts : (code : ℕ) → Parts
 noParts code = record { answer = Refused code; places = record { header = 0; body = 0; attachment = 0; end = 0 } }
 
--- the place behind the header, by the header size and the frame's length
+-- the place after the header, by the header size and the frame's length
 unfoldable pub bodyAt : Kind → (headerSize size : ℕ) → ℕ
 bodyAt kinds.Request h n = 16 + h
 bodyAt kinds.Response h n = 16 + h

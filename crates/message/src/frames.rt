@@ -1,6 +1,6 @@
 // A frame read as a kind: which frames fit it, what its message says and where its parts stand.
+use crate::Answer;
 use crate::Kind;
-use crate::Record;
 use crate::Span;
 use crate::records::attachment_size;
 use crate::records::record_of;
@@ -19,10 +19,10 @@ ghost use mathlib.Core.Bool.{_&&_};
 ghost use Rattle.frame.specs.Header.{maxFrame, parsed};
 ghost use Rattle.frame.specs.declared.Parsed.the-variants.{Good};
 ghost use Rattle.message.specs.Frames.{kindFits, readFrame};
+ghost use Rattle.decoder.specs.Schema.{schemaAt};
 ghost use Rattle.decoder.specs.Rows.{rowNumbers};
 ghost use Rattle.message.specs.Records.{schemaOf};
 ghost use Rattle.message.specs.Spans.{spanFrom};
-ghost use Rattle.decoder.specs.Decoding.{schemaAt};
 ghost use Rattle.message.specs.Parts.{PartsOf, noParts, bodyAt, Whole};
 
 // Where the parts of a frame stand: the header up to the body, the body and the attachment up to the end. All are 0 where the
@@ -36,7 +36,7 @@ pub(crate) struct Places {
 
 // The record or the error code, and the places of the parts.
 pub(crate) struct Parts {
-    pub answer: Record,
+    pub answer: Answer,
     pub places: Places,
 }
 
@@ -44,7 +44,7 @@ fn refused(code: u32) -> Parts
     ensures { λ r. ⌜ r ≡ noParts code ⌝ }
 {
     Parts {
-        answer: Record::Refused(code),
+        answer: Answer::Refused(code),
         places: Places {
             header: 0,
             body: 0,
@@ -126,7 +126,7 @@ fn read_message(kind: Kind, frame: &[u8], header_size: usize, id: u32, rows: &mu
         return refused(15);
     }
     Parts {
-        answer: record_of(kind, id, values, slots.rows as u32),
+        answer: Answer::Read(record_of(kind, id, values, slots.rows as u32)),
         places: Places {
             header: HEADER,
             body,
@@ -158,7 +158,7 @@ pub(crate) fn read_parts(kind: Kind, frame: &[u8], rows: &mut [u32]) -> Parts
         return refused(16);
     }
     if frame.len() < HEADER {
-        return refused(9);
+        return refused(9); // "fewer than 16 bytes is 9"
     }
     let fixed = parse_header(&frame[..HEADER]);
     match fixed {

@@ -101,7 +101,6 @@ pub struct Close {
     pub rows: u32,
 }
 
-// The record of a frame, or the error code.
 pub enum Record {
     Request(Request),
     Response(Response),
@@ -109,12 +108,17 @@ pub enum Record {
     Data(Data),
     Feedback(Feedback),
     Close(Close),
+}
+
+// What a frame reads as: its record, or the error code.
+pub enum Answer {
+    Read(Record),
     Refused(u32),
 }
 
 // What a frame reads as, with its parts as starts and lengths; an empty one is 0, 0.
 pub struct Located {
-    pub record: Record,
+    pub answer: Answer,
     pub header: Span,
     pub body: Span,
     pub attachment: Span,
@@ -126,10 +130,10 @@ pub fn read_spans(kind: Kind, frame: &[u8], rows: &mut [u32]) -> Located
         × (now (rows .exit) ≡ readFrame kind (now (frame .entry)) (now (rows .entry)) .rows) ⌝ }
 {
     let parts = read_parts(kind, frame, rows);
-    let record = parts.answer;
+    let answer = parts.answer;
     let places = parts.places;
     Located {
-        record,
+        answer,
         header: span(places.header, places.body),
         body: span(places.body, places.end),
         attachment: span(places.attachment, places.end),

@@ -10,6 +10,7 @@ fn with_job(q: Queue, request: u32, timeout: u32) -> Queue {
         connection: 1,
         request,
         timeout,
+        zero: 0,
         arrival: 0,
     };
     let added = queue::add(q, job);

@@ -1,12 +1,11 @@
--- The fields of a message as a list: numbers that name no field, and schema numbers that name no message. What the last arm of a `match` knows of its
--- number is a product, the first arm innermost.
+-- The fields of a message as a list: numbers that name no field, and schema numbers that name no message. What the last arm of a `match`
+-- knows of its number is a product, the first arm innermost.
 use Prim.Native.Nat.{ℕ, zero, suc, _≤_}
 use mathlib.Core.Path.{_≡_}
 use mathlib.Core.List.{List, [], _∷_}
 use native.Mathlib.Omega.{arith}
 use borrow.Author.Tests.{ne-eqb}
-use Rattle.decoder.specs.Decoding.{schemaAt}
-use Rattle.decoder.specs.DecoderState.{partSchema, slotAt}
+use Rattle.decoder.specs.Schema.{schemaAt, partSchema, slotAt}
 use Rattle.outgoing.specs.Items.{items}
 
 -- k is none of the first n numbers

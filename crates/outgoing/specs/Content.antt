@@ -10,9 +10,8 @@ use Rattle.decoder.specs.Fields.{slotCount}
 use Rattle.message.specs.declared.Kind.{Kind}
 use Rattle.message.specs.declared.Kind.the-variants as kinds
 use Rattle.message.specs.declared.Record.{Record}
-use Rattle.message.specs.declared.Record.the-variants.{Request, Response, Init, Data, Feedback, Close, Refused}
+use Rattle.message.specs.declared.Record.the-variants.{Request, Response, Init, Data, Feedback, Close}
 
--- A refused record is no kind's: nothing is written of it (`written`), and what is said of it here is that it is all zero.
 unfoldable pub kindOf : Record → Kind
 kindOf (Request r) = kinds.Request
 kindOf (Response r) = kinds.Response
@@ -20,7 +19,6 @@ kindOf (Init r) = kinds.Init
 kindOf (Data r) = kinds.Data
 kindOf (Feedback r) = kinds.Feedback
 kindOf (Close r) = kinds.Close
-kindOf (Refused code) = kinds.Data
 
 -- "the id of bytes 11-14"
 unfoldable pub recordId : Record → ℕ
@@ -30,7 +28,6 @@ recordId (Init r) = r .id
 recordId (Data r) = r .id
 recordId (Feedback r) = r .id
 recordId (Close r) = r .id
-recordId (Refused code) = 0
 
 -- "and the row count"
 unfoldable pub rowCount : Record → ℕ
@@ -40,7 +37,6 @@ rowCount (Init r) = r .rows
 rowCount (Data r) = r .rows
 rowCount (Feedback r) = r .rows
 rowCount (Close r) = r .rows
-rowCount (Refused code) = 0
 
 -- the 32 bits of an int32, as two's complement; a present mark
 abbrev pub bits : ℤ → ℕ
@@ -49,7 +45,7 @@ bits z = lowU32 (signExtended z)
 abbrev pub mark : Bool → ℕ
 mark present = cond present 1 0
 
--- "that kind's own fields and present marks": the slots of the kind's schema, and zeros up to as many as the largest message has
+-- "that kind's own fields and present marks": the slots of the kind's schema, and zeros up to 16; Init, the largest, has 15
 unfoldable pub slotsOf : Record → List ℕ
 slotsOf (Request r) =
     r .version ∷ r .«call_type» ∷ r .«request_id» ∷ r .timeout
@@ -81,4 +77,3 @@ slotsOf (Close r) =
     ∷ r .msg .start ∷ r .msg .len
     ∷ r .«message_type» ∷ bits (r .«func_ret»)
     ∷ replicate 10 0
-slotsOf (Refused code) = replicate slotCount 0

@@ -1,20 +1,19 @@
--- The fields of a message as a list, by its schema, and the number of a kind's message: what the code's table is. No sentence of the paper is here;
--- `Encoding` (crate `writer`) and `Grounds` go by the schema, and the laws of `proofs` say that the list agrees with them.
+-- The fields of a message as a list, by its schema, and the number of a kind's message: what the code's table is. No sentence of the paper
+-- is here; `Encoding` (crate `writer`) and `Grounds` go by the schema, and the laws of `proofs` say that the list agrees with them.
 use Prim.Native.Nat.{ℕ, _+_, _<_}
 use mathlib.Core.Bool.{Bool, true, _&&_}
 use mathlib.Core.List.{List, [], _∷_}
 use lib.ListN.{length, getD}
 use lib.Dec.{leb, eqb}
-use Rattle.decoder.specs.Schema.{uint32, int32, Schema, done, number, bytes, map, message, width}
+use Rattle.decoder.specs.Schema.{uint32, int32, Schema, done, number, bytes, map, message, width, partSchema, slotAt}
 use Rattle.decoder.specs.Rows.{Row}
-use Rattle.decoder.specs.DecoderState.{partSchema, slotAt}
 use Rattle.message.specs.declared.Kind.{Kind}
 use Rattle.message.specs.declared.Kind.the-variants as kinds
 use Rattle.outgoing.specs.declared.Item.{Item}
 use Rattle.outgoing.specs.declared.Item.the-variants as item
 
-abbrev pub ended : Item
-ended = item.End
+abbrev pub noItem : Item
+noItem = item.End
 
 -- the fields of a schema whose first slot is i; a message in it is passed over, with its slots
 unfoldable pub items : Schema → (i : ℕ) → List Item

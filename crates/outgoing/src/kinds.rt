@@ -23,7 +23,8 @@ fn mark_of(present: bool) -> u32
 }
 
 pub(crate) fn request_content(r: Request) -> Content
-    ensures { λ c. ⌜ (c .kind ≡ kindOf (records.Request r)) × (c .id ≡ r .id) × (c .values ≡ slotsOf (records.Request r)) × (c .rows ≡ r .rows) ⌝ }
+    ensures { λ c. ⌜ (c .kind ≡ kindOf (records.Request r)) × (c .id ≡ r .id) × (c .values ≡ slotsOf (records.Request r))
+        × (c .rows ≡ r .rows) ⌝ }
 {
     Content {
         kind: Kind::Request,
@@ -51,7 +52,8 @@ pub(crate) fn request_content(r: Request) -> Content
 }
 
 pub(crate) fn response_content(r: Response) -> Content
-    ensures { λ c. ⌜ (c .kind ≡ kindOf (records.Response r)) × (c .id ≡ r .id) × (c .values ≡ slotsOf (records.Response r)) × (c .rows ≡ r .rows) ⌝ }
+    ensures { λ c. ⌜ (c .kind ≡ kindOf (records.Response r)) × (c .id ≡ r .id) × (c .values ≡ slotsOf (records.Response r))
+        × (c .rows ≡ r .rows) ⌝ }
 {
     Content {
         kind: Kind::Response,
@@ -79,7 +81,8 @@ pub(crate) fn response_content(r: Response) -> Content
 }
 
 pub(crate) fn init_content(r: Init) -> Content
-    ensures { λ c. ⌜ (c .kind ≡ kindOf (records.Init r)) × (c .id ≡ r .id) × (c .values ≡ slotsOf (records.Init r)) × (c .rows ≡ r .rows) ⌝ }
+    ensures { λ c. ⌜ (c .kind ≡ kindOf (records.Init r)) × (c .id ≡ r .id) × (c .values ≡ slotsOf (records.Init r))
+        × (c .rows ≡ r .rows) ⌝ }
 {
     let response = r.response_meta;
     Content {
@@ -108,7 +111,8 @@ pub(crate) fn init_content(r: Init) -> Content
 }
 
 pub(crate) fn close_content(r: Close) -> Content
-    ensures { λ c. ⌜ (c .kind ≡ kindOf (records.Close r)) × (c .id ≡ r .id) × (c .values ≡ slotsOf (records.Close r)) × (c .rows ≡ r .rows) ⌝ }
+    ensures { λ c. ⌜ (c .kind ≡ kindOf (records.Close r)) × (c .id ≡ r .id) × (c .values ≡ slotsOf (records.Close r))
+        × (c .rows ≡ r .rows) ⌝ }
 {
     Content {
         kind: Kind::Close,

@@ -2,6 +2,14 @@
 mod kinds;
 mod table;
 
+use decoder::CLOSE;
+use decoder::DATA;
+use decoder::FEEDBACK;
+use decoder::INIT;
+use decoder::REQUEST;
+use decoder::REQUEST_META;
+use decoder::RESPONSE;
+use decoder::RESPONSE_META;
 use kinds::close_content;
 use kinds::init_content;
 use kinds::request_content;
@@ -17,27 +25,9 @@ use table::response_item;
 use table::response_meta_item;
 ghost use mathlib.Core.Path.{_≡_};
 ghost use lib.ListN.{getD};
-ghost use Rattle.decoder.specs.DecoderState.{partSchema, slotAt};
+ghost use Rattle.decoder.specs.Schema.{partSchema, slotAt};
 ghost use Rattle.outgoing.specs.Content.{kindOf, recordId, rowCount, slotsOf};
-ghost use Rattle.outgoing.specs.Items.{items, ended, Placed, schemaNumber};
-
-// The schema numbers: the messages, and the two parts of Init.
-pub const REQUEST: u32 = 0;
-
-pub const RESPONSE: u32 = 1;
-
-pub const INIT: u32 = 2;
-
-// Data has no message, and so no fields.
-pub const DATA: u32 = 3;
-
-pub const FEEDBACK: u32 = 4;
-
-pub const CLOSE: u32 = 5;
-
-pub const REQUEST_META: u32 = 6;
-
-pub const RESPONSE_META: u32 = 7;
+ghost use Rattle.outgoing.specs.Items.{items, noItem, Placed, schemaNumber};
 
 // As many as the largest message has.
 pub const MAX_FIELDS: usize = 12;
@@ -60,9 +50,10 @@ pub enum Item {
     End,
 }
 
-// The content of a record; of a refused one, all zero.
+// The content of a record.
 pub fn content_of(record: Record) -> Content
-    ensures { λ r. ⌜ (r .kind ≡ kindOf «record») × (r .id ≡ recordId «record») × (r .values ≡ slotsOf «record») × (r .rows ≡ rowCount «record») ⌝ }
+    ensures { λ r. ⌜ (r .kind ≡ kindOf «record») × (r .id ≡ recordId «record») × (r .values ≡ slotsOf «record»)
+        × (r .rows ≡ rowCount «record») ⌝ }
 {
     match record {
         Record::Request(r) => request_content(r),
@@ -98,12 +89,6 @@ pub fn content_of(record: Record) -> Content
             rows: r.rows,
         },
         Record::Close(r) => close_content(r),
-        Record::Refused(_) => Content {
-            kind: Kind::Data,
-            id: 0,
-            values: [0; 16],
-            rows: 0,
-        },
     }
 }
 
@@ -123,7 +108,7 @@ pub fn schema_number(kind: Kind) -> u32
 
 // The field number k, from 0, of the message that a schema number names. Data, 3, has no fields.
 pub fn item_at(schema: u32, k: usize) -> Item
-    ensures { λ r. ⌜ (r ≡ getD (items (partSchema schema) (slotAt schema)) k ended) × Placed r ⌝ }
+    ensures { λ r. ⌜ (r ≡ getD (items (partSchema schema) (slotAt schema)) k noItem) × Placed r ⌝ }
 {
     match schema {
         REQUEST => request_item(k),

@@ -2,11 +2,11 @@
 use crate::Item;
 ghost use mathlib.Core.Path.{_≡_};
 ghost use lib.ListN.{getD};
-ghost use Rattle.decoder.specs.DecoderState.{partSchema, slotAt};
-ghost use Rattle.outgoing.specs.Items.{items, ended, Placed};
+ghost use Rattle.decoder.specs.Schema.{partSchema, slotAt};
+ghost use Rattle.outgoing.specs.Items.{items, noItem, Placed};
 
 pub(crate) fn request_item(k: usize) -> Item
-    ensures { λ r. ⌜ (r ≡ getD (items (partSchema 0) (slotAt 0)) k ended) × Placed r ⌝ }
+    ensures { λ r. ⌜ (r ≡ getD (items (partSchema 0) (slotAt 0)) k noItem) × Placed r ⌝ }
 {
     match k {
         0 => Item::Unsigned(1, 0),
@@ -26,7 +26,7 @@ pub(crate) fn request_item(k: usize) -> Item
 }
 
 pub(crate) fn response_item(k: usize) -> Item
-    ensures { λ r. ⌜ (r ≡ getD (items (partSchema 1) (slotAt 1)) k ended) × Placed r ⌝ }
+    ensures { λ r. ⌜ (r ≡ getD (items (partSchema 1) (slotAt 1)) k noItem) × Placed r ⌝ }
 {
     match k {
         0 => Item::Unsigned(1, 0),
@@ -45,7 +45,7 @@ pub(crate) fn response_item(k: usize) -> Item
 }
 
 pub(crate) fn init_item(k: usize) -> Item
-    ensures { λ r. ⌜ (r ≡ getD (items (partSchema 2) (slotAt 2)) k ended) × Placed r ⌝ }
+    ensures { λ r. ⌜ (r ≡ getD (items (partSchema 2) (slotAt 2)) k noItem) × Placed r ⌝ }
 {
     match k {
         0 => Item::Unsigned(3, 12),
@@ -56,7 +56,7 @@ pub(crate) fn init_item(k: usize) -> Item
 }
 
 pub(crate) fn feedback_item(k: usize) -> Item
-    ensures { λ r. ⌜ (r ≡ getD (items (partSchema 4) (slotAt 4)) k ended) × Placed r ⌝ }
+    ensures { λ r. ⌜ (r ≡ getD (items (partSchema 4) (slotAt 4)) k noItem) × Placed r ⌝ }
 {
     match k {
         0 => Item::Unsigned(1, 0),
@@ -65,7 +65,7 @@ pub(crate) fn feedback_item(k: usize) -> Item
 }
 
 pub(crate) fn close_item(k: usize) -> Item
-    ensures { λ r. ⌜ (r ≡ getD (items (partSchema 5) (slotAt 5)) k ended) × Placed r ⌝ }
+    ensures { λ r. ⌜ (r ≡ getD (items (partSchema 5) (slotAt 5)) k noItem) × Placed r ⌝ }
 {
     match k {
         0 => Item::Signed(1, 0),
@@ -79,7 +79,7 @@ pub(crate) fn close_item(k: usize) -> Item
 }
 
 pub(crate) fn request_meta_item(k: usize) -> Item
-    ensures { λ r. ⌜ (r ≡ getD (items (partSchema 6) (slotAt 6)) k ended) × Placed r ⌝ }
+    ensures { λ r. ⌜ (r ≡ getD (items (partSchema 6) (slotAt 6)) k noItem) × Placed r ⌝ }
 {
     match k {
         0 => Item::Bytes(1, 1),
@@ -92,7 +92,7 @@ pub(crate) fn request_meta_item(k: usize) -> Item
 }
 
 pub(crate) fn response_meta_item(k: usize) -> Item
-    ensures { λ r. ⌜ (r ≡ getD (items (partSchema 7) (slotAt 7)) k ended) × Placed r ⌝ }
+    ensures { λ r. ⌜ (r ≡ getD (items (partSchema 7) (slotAt 7)) k noItem) × Placed r ⌝ }
 {
     match k {
         0 => Item::Signed(1, 9),

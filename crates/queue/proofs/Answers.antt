@@ -10,7 +10,8 @@ use lib.Seq.{set-split, append-snoc}
 use Rattle.queue.specs.declared.Job.{Job}
 use Rattle.queue.specs.declared.Queue.{Queue}
 use Rattle.queue.specs.Waiting.{capacity, waiting, any, place, hasPair, late, invalid, earliest, with, filled, samePair}
-use Rattle.queue.specs.Calls.{added, taken, cancelled, addError, removeError, removedAt, errorInvalid, errorArrival, errorDuplicate, errorFull, errorEmpty, errorAbsent}
+use Rattle.queue.specs.Calls.{added, taken, cancelled, addError, removeError, removedAt, errorInvalid, errorArrival, errorDuplicate}
+use Rattle.queue.specs.Calls.{errorFull, errorEmpty, errorAbsent}
 
 module _ (q : Queue) (j : Job) where
   abbrev pub repeats : Bool
@@ -69,6 +70,7 @@ module _ (q : Queue) (c r : ℕ) where
   unfolding cancelled
   cancelled-absent e f = rw (e, f)
 
-  pub cancelled-named : invalid q ≡ false → any (hasPair c r) (waiting q) ≡ true → cancelled q c r ≡ removedAt q (place (hasPair c r) (waiting q))
+  pub cancelled-named :
+      invalid q ≡ false → any (hasPair c r) (waiting q) ≡ true → cancelled q c r ≡ removedAt q (place (hasPair c r) (waiting q))
   unfolding cancelled
   cancelled-named e f = rw (e, f)

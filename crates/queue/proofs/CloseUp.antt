@@ -1,4 +1,4 @@
--- How the jobs behind a place move up one by one, and that a queue closed up so is the one of the definitions.
+-- How the jobs after a place move up one by one, and that a queue closed up so is the one of the definitions.
 -- Assumes nothing.
 use Prim.Native.Nat.{ℕ, suc, _+_, _-_, _≤_, _<_}
 use mathlib.Core.Path.{_≡_, sym, ap, ap₂, _∙_}
@@ -18,7 +18,7 @@ drop-take m n js h l =
     ∙ ap (λ (ks : List Job). drop m ks) (take-add m (n - m) js)
     ∙ drop-at (take m js) (take (n - m) (drop m js)) m (length-take-le m js l)
 
--- the list once the jobs behind `at` have moved up as far as place i
+-- the list once the jobs after `at` have moved up as far as place i; `i - at` is not cut off, since i goes from `at` up
 abbrev pub moved : List Job → ℕ → ℕ → List Job
 moved js at i = paste js at (drop (suc at) js) (i - at)
 

@@ -1,4 +1,4 @@
--- The order of due times: irreflexive and asymmetric, and what is before one that is not behind another is before that other too.
+-- The order of due times: irreflexive and asymmetric; where x is before b and y is not, x is before y.
 -- Assumes nothing.
 use mathlib.Core.Path.{_≡_, refl}
 use mathlib.Core.Bool.{true, false, true≢false, false≢true}

@@ -16,15 +16,15 @@ use Rattle.queue.specs.Waiting.{zeroJob, waiting, earliest, jobAt, noneB
 use Rattle.queue.proofs.Search.{place-is, any-none, any-some}
 use Rattle.queue.proofs.Deadlines.{earlier-self, earlier-back, earlier-past}
 
--- of the first i jobs, none is due before the one at b, and it is due before each that stands in front of it
+-- of the first i jobs, none is due before the one at b, and it is due before each that is at an earlier place
 pub record Leads (w : List Job) (i b : ℕ) : Type 0 where
   pub inside : b < i
   pub unbeaten : (k : ℕ) → k < i → dueBefore (jobAt w k) (jobAt w b) ≡ false
   pub first : (k : ℕ) → k < b → dueBefore (jobAt w b) (jobAt w k) ≡ true
 
 module _ (w : List Job) where
-  pub leads-alone : Leads w 1 0
-  leads-alone =
+  pub leads-one : Leads w 1 0
+  leads-one =
       record {
         inside = omega arith;
         unbeaten = λ k h. let e : k ≡ 0 = omega arith in rw e (earlier-self (due (jobAt w 0)));
@@ -74,7 +74,7 @@ module _ (w : List Job) where
 
   -- every list that is not empty has one
   pub leader : (n : ℕ) → (b : ℕ) × Leads w (suc n) b
-  leader zero = (0, leads-alone)
+  leader zero = (0, leads-one)
   leader (suc n) = go (leader n)
     where
       go : (b : ℕ) × Leads w (suc n) b → (b : ℕ) × Leads w (suc (suc n)) b
@@ -89,7 +89,8 @@ pub earliest-leads : (w : List Job) → 0 < length w → Leads w (length w) (ear
 earliest-leads [] h = absurd (omega arith)
 earliest-leads (j ∷ js) h =
     let l = leader (j ∷ js) (length js) in
-    let e : earliest (j ∷ js) ≡ l .0 = rw (take-length (j ∷ js)) at (leads-earliest (j ∷ js) (suc (length js)) (l .0) (omega arith) (l .1)) in
+    let e : earliest (j ∷ js) ≡ l .0 =
+    rw (take-length (j ∷ js)) at (leads-earliest (j ∷ js) (suc (length js)) (l .0) (omega arith) (l .1)) in
     rw e (l .1)
 
 pub earliest-below : (q : Queue) → q .count ≤ length (q .jobs) → 0 < q .count → earliest (waiting q) < q .count

@@ -1,4 +1,4 @@
--- The laws that belong to no one function, from the smallest up, and then the theorems for a user: `Order` and `History`.
+-- The laws that belong to no one function, from the smallest up. What a user is promised over calls is in `thm_queue`.
 pub mod Tests
 pub mod Search
 pub mod Deadlines
@@ -7,8 +7,5 @@ pub mod Valid
 pub mod CloseUp
 pub mod Answers
 pub mod Changes
-pub mod Order
-pub mod Outstanding
-pub mod History
-pub mod Examples
-pub mod Table
+-- Demand 1, of every public entry
+pub mod AsksNothing

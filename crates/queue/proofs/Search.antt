@@ -15,7 +15,7 @@ use Rattle.queue.specs.declared.Job.{Job}
 use Rattle.queue.specs.Waiting.{zeroJob, any, place, jobAt}
 use Rattle.queue.proofs.Tests.{or-right}
 
--- the first n jobs from a place on: the job there and those behind it, or nothing
+-- the first n jobs from a place on: the job there and those after it, or nothing
 pub drop-front :
     (js : List Job) (n i : ℕ) → n ≤ length js → i < n
     → drop i (take n js) ≡ jobAt js i ∷ drop (suc i) (take n js)
@@ -93,16 +93,16 @@ module _ (p : Job → Bool) where
     search-ends h = rw (none-left js n i fits h) (omega arith)
 
     -- what a search found, r, says whether some job has the property
-    abbrev behind : List Job
-    behind = drop i (take n js)
+    abbrev rest : List Job
+    rest = drop i (take n js)
 
-    length-behind : length behind ≡ n - i
-    length-behind = length-drop i (take n js) ∙ ap (λ (k : ℕ). k - i) (length-take-le n js fits)
+    length-rest : length rest ≡ n - i
+    length-rest = length-drop i (take n js) ∙ ap (λ (k : ℕ). k - i) (length-take-le n js fits)
 
     pub search-found : (r : ℕ) → r ≡ i + place p (drop i (take n js)) → r < n → any p (drop i (take n js)) ≡ true
     search-found r e h =
-        any-place behind ∙ lt-ltb (place p behind) (length behind) (omega (arith, length-behind))
+        any-place rest ∙ lt-ltb (place p rest) (length rest) (omega (arith, length-rest))
 
     pub search-fails : (r : ℕ) → i ≤ n → r ≡ i + place p (drop i (take n js)) → n ≤ r → any p (drop i (take n js)) ≡ false
     search-fails r g e h =
-        any-place behind ∙ le-ltb (place p behind) (length behind) (omega (arith, length-behind))
+        any-place rest ∙ le-ltb (place p rest) (length rest) (omega (arith, length-rest))

@@ -13,7 +13,8 @@ use lib.ListN.{length, take, drop}
 use lib.Seq.{length-take-le, getD-take}
 use Rattle.queue.specs.declared.Job.{Job}
 use Rattle.queue.specs.declared.Queue.{Queue}
-use Rattle.queue.specs.Waiting.{capacity, latestArrival, zeroJob, waiting, any, place, hasPair, pairTwice, late, invalid, jobAt, samePair}
+use Rattle.queue.specs.Waiting.{capacity, latestArrival, zeroJob, waiting, any, place, hasPair, pairTwice, late, invalid, jobAt}
+use Rattle.queue.specs.Waiting.{samePair}
 use Rattle.queue.proofs.Tests.{or-right, or-false, both}
 use Rattle.queue.proofs.Search.{any-some, none-at, drop-front, search-found, search-fails}
 
@@ -57,7 +58,7 @@ arrival-at q k e fits h =
     let l : late (jobAt (waiting q) k) ≡ false = none-at late (waiting q) k (valid q e .early) (omega arith) in
     ltb-false latestArrival (jobAt (q .jobs) k .arrival) (rw (getD-take (q .count) (q .jobs) k zeroJob h) at l)
 
--- where no pair stands twice, a pair stands at one place only
+-- where no pair is there twice, a pair is at one place only
 pair-is : (c r : ℕ) (j : Job) → hasPair c r j ≡ true → (j .connection ≡ c) × (j .request ≡ r)
 pair-is c r j e =
     let s = both (eqb (j .connection) c) (eqb (j .request) r) e in

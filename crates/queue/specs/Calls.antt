@@ -9,14 +9,19 @@ use Rattle.queue.specs.declared.Job.{Job}
 use Rattle.queue.specs.declared.Queue.{Queue}
 use Rattle.queue.specs.declared.Added.{Added}
 use Rattle.queue.specs.declared.Removed.{Removed}
-use Rattle.queue.specs.Waiting.{capacity, zeroJob, waiting, jobAt, any, place, hasPair, samePair, late, invalid, earliest, filled, closedUp}
+use Rattle.queue.specs.Waiting.{capacity, zeroJob, waiting, jobAt, any, place, hasPair, samePair, late, invalid, earliest, filled}
+use Rattle.queue.specs.Waiting.{closedUp}
+
+-- a job of "connection number, request id and timeout (32-bit), arrival (64-bit ms)"; the number that fills its gap is 0
+abbrev pub newJob : (connection request timeout arrival : ℕ) → Job
+newJob connection request timeout arrival =
+    record { connection = connection; request = request; timeout = timeout; zero = 0; arrival = arrival }
 
 -- "The id in bytes 11-14 is the one to answer with; the message's own request_id is only handed over."
 abbrev pub jobOf : Request → (connection arrival : ℕ) → Job
-jobOf request connection arrival =
-    record { connection = connection; request = request .id; timeout = request .timeout; arrival = arrival }
+jobOf request connection arrival = newJob connection (request .id) (request .timeout) arrival
 
--- the error codes, document 01's refusal numbers 21 to 26, as they stand in its table
+-- the error codes, document 01's refusal numbers 21 to 26, as in its table
 abbrev pub errorFull : ℕ
 errorFull = 21
 

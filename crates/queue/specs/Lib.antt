@@ -2,4 +2,3 @@
 pub mod Due
 pub mod Waiting
 pub mod Calls
-pub mod History

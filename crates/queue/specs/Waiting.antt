@@ -19,9 +19,9 @@ latestArrival = 2 ^ 62
 
 -- "A refused record or job is all zero", and so is a place freed
 abbrev pub zeroJob : Job
-zeroJob = record { connection = 0; request = 0; timeout = 0; arrival = 0 }
+zeroJob = record { connection = 0; request = 0; timeout = 0; zero = 0; arrival = 0 }
 
--- the jobs that wait, in order of acceptance; what stands past the count is no job
+-- the jobs that wait, in order of acceptance; what is past the count is no job
 abbrev pub waiting : Queue → List Job
 waiting q = take (q .count) (q .jobs)
 
@@ -68,8 +68,8 @@ noneBefore w j = not (any (λ k. dueBefore k j) w)
 unfoldable pub earliest : List Job → ℕ
 earliest w = place (noneBefore w) w
 
--- "The list holds up to 64 jobs in order of acceptance": a job that is accepted stands behind those that wait. This
--- is the rule of the order in which jobs are stored.
+-- "The list holds up to 64 jobs in order of acceptance": a job that is accepted comes after those that wait.
+-- This is the rule of the order in which jobs are stored.
 abbrev pub with : List Job → Job → List Job
 with w j = w ++ (j ∷ [])
 
@@ -77,11 +77,12 @@ with w j = w ++ (j ∷ [])
 abbrev pub without : List Job → ℕ → List Job
 without w at = take at w ++ drop (suc at) w
 
--- a queue with one job more; what stood past the place filled is as it was
+-- a queue with one job more; what is past the place filled stays as it was
 abbrev pub filled : Queue → Job → Queue
 filled q j = record { jobs = with (waiting q) j ++ drop (suc (q .count)) (q .jobs); count = suc (q .count) }
 
--- a queue with one job less: "later jobs move up one and the last place freed is zero"; what stood past it is as it was
+-- a queue with one job less: "later jobs move up one and the last place freed is zero"; what is past it stays as it was. The
+-- count is above 0, since only a job that waits is removed (`taken`, `cancelled`).
 unfoldable pub closedUp : Queue → ℕ → Queue
 closedUp q at =
     record { jobs = without (waiting q) at ++ zeroJob ∷ drop (q .count) (q .jobs); count = q .count - 1 }

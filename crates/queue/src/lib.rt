@@ -29,11 +29,14 @@ pub const ERROR_DUPLICATE: u32 = 25;
 pub const ERROR_ABSENT: u32 = 26;
 
 // A job, named by its pair of connection number and request id. A timeout of 0 is no deadline. Times are in milliseconds.
+// `zero` fills the four bytes before `arrival`: without it they would be padding, which no contract could speak of. No
+// function looks at it, and it moves with its job.
 #[repr(C)]
 pub struct Job {
     pub connection: u32,
     pub request: u32,
     pub timeout: u32,
+    pub zero: u32,
     pub arrival: u64,
 }
 
@@ -66,6 +69,7 @@ pub fn job_of(request: Request, connection: u32, arrival: u64) -> Job
         connection,
         request: request.id,
         timeout: request.timeout,
+        zero: 0,
         arrival,
     }
 }
@@ -80,7 +84,7 @@ pub fn empty() -> Queue
     }
 }
 
-// Puts a job behind those that wait.
+// Puts a job after those that wait.
 pub fn add(q: Queue, j: Job) -> Added
     ensures { λ r. ⌜ r ≡ added q j ⌝ }
 {

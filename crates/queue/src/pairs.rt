@@ -1,4 +1,4 @@
-// Where a pair of connection number and request id stands in the queue.
+// Where a pair of connection number and request id is in the queue.
 ghost use mathlib.Core.Path.{_≡_};
 ghost use Prim.Native.Nat.{_+_, _≤_};
 ghost use lib.ListN.{drop};
@@ -16,7 +16,7 @@ fn has_pair(j: Job, connection: u32, request: u32) -> bool
     false
 }
 
-// The first place of a pair among the waiting jobs from a place on; the count where it stands at none.
+// The first place of a pair among the waiting jobs from a place on; the count where there is none.
 pub(crate) fn find(q: Queue, from: usize, connection: u32, request: u32) -> usize
     requires { ⌜ (from ≤ q .count) × (q .count ≤ capacity) ⌝ }
     ensures { λ r. ⌜ r ≡ from + place (hasPair connection request) (drop from (waiting q)) ⌝ }

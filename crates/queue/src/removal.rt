@@ -15,6 +15,7 @@ pub(crate) fn zero_job() -> Job
         connection: 0,
         request: 0,
         timeout: 0,
+        zero: 0,
         arrival: 0,
     }
 }

@@ -14,6 +14,7 @@ fn job(request: u32, timeout: u32, arrival: u64) -> Job {
         connection: 7,
         request,
         timeout,
+        zero: 0,
         arrival,
     }
 }

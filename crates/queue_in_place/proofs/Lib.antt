@@ -1,3 +1,5 @@
 -- What the walks share, from the general down.
 pub mod Lent
 pub mod Structs
+-- Demand 1, of every public entry
+pub mod AsksNothing

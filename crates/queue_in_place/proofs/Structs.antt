@@ -31,12 +31,16 @@ added = record { type = A.the-type; laws = A′.the-laws; plain = A′.the-plain
 abbrev pub removed : PlainStruct
 removed = record { type = R.the-type; laws = R′.the-laws; plain = R′.the-plain }
 
-pub job-fits : (j : Job) → Is u32 (j .connection) (vint w32 (j .connection) ∷ []) → Is u32 (j .request) (vint w32 (j .request) ∷ []) → Is u32 (j .timeout) (vint w32 (j .timeout) ∷ [])
+pub job-fits :
+    (j : Job)
+    → Is u32 (j .connection) (vint w32 (j .connection) ∷ []) → Is u32 (j .request) (vint w32 (j .request) ∷ [])
+    → Is u32 (j .timeout) (vint w32 (j .timeout) ∷ []) → Is u32 (j .zero) (vint w32 (j .zero) ∷ [])
     → Is u64 (j .arrival) (vint w64 (j .arrival) ∷ []) → Fits job j
-job-fits j c r t a = owes J.the-type J′.the-laws j (c, (r, (t, (a, tt))))
+job-fits j c r t z a = owes J.the-type J′.the-laws j (c, (r, (t, (z, (a, tt)))))
 
 pub added-parts : (r : Added) → Fits added r → Fits queue (r .queue) × Is u32 (r .error) (vint w32 (r .error) ∷ [])
 added-parts r is = let each = owed A.the-type A′.the-laws r (val added r ∷ []) is in (each .0, each .1 .0)
 
-pub removed-parts : (r : Removed) → Fits removed r → Fits queue (r .queue) × Fits job (r .job) × Is u32 (r .error) (vint w32 (r .error) ∷ [])
+pub removed-parts :
+    (r : Removed) → Fits removed r → Fits queue (r .queue) × Fits job (r .job) × Is u32 (r .error) (vint w32 (r .error) ∷ [])
 removed-parts r is = let each = owed R.the-type R′.the-laws r (val removed r ∷ []) is in (each .0, each .1 .0, each .1 .1 .0)

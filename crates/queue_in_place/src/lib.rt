@@ -3,7 +3,7 @@
 // error code: document 01's refusal number, and 0 where there is none. So each contract says that what the caller has
 // afterwards, put together as that answer, is the definition's answer for the queue as it was lent.
 ghost use mathlib.Core.Path.{_≡_};
-ghost use Rattle.queue.specs.Calls.{emptyQueue, added, taken, cancelled};
+ghost use Rattle.queue.specs.Calls.{newJob, emptyQueue, added, taken, cancelled};
 use queue::Job;
 use queue::Queue;
 
@@ -15,7 +15,7 @@ pub extern "C" fn trpc_queue_init(q: &mut Queue)
     *q = queue::empty();
 }
 
-// Puts a job behind those that wait.
+// Puts a job after those that wait; its `zero` is 0.
 #[no_mangle]
 pub extern "C" fn trpc_queue_add(
     q: &mut Queue,
@@ -25,17 +25,18 @@ pub extern "C" fn trpc_queue_add(
     arrival: u64,
 ) -> u32
     ensures { λ r. ⌜ record { queue = now (q .exit); error = r }
-        ≡ added (now (q .entry)) (record { connection = connection; request = request; timeout = timeout; arrival = arrival }) ⌝ }
+        ≡ added (now (q .entry)) (newJob connection request timeout arrival) ⌝ }
 {
     let job = Job {
         connection,
         request,
         timeout,
+        zero: 0,
         arrival,
     };
-    let answer = queue::add(*q, job);
-    *q = answer.queue;
-    answer.error
+    let added = queue::add(*q, job);
+    *q = added.queue;
+    added.error
 }
 
 // Removes the job that is due first, of several the one accepted first.
@@ -43,10 +44,10 @@ pub extern "C" fn trpc_queue_add(
 pub extern "C" fn trpc_queue_take(q: &mut Queue, removed: &mut Job) -> u32
     ensures { λ r. ⌜ record { queue = now (q .exit); job = now (removed .exit); error = r } ≡ taken (now (q .entry)) ⌝ }
 {
-    let answer = queue::take(*q);
-    *q = answer.queue;
-    *removed = answer.job;
-    answer.error
+    let taken = queue::take(*q);
+    *q = taken.queue;
+    *removed = taken.job;
+    taken.error
 }
 
 // Removes the job of a pair.
@@ -57,10 +58,11 @@ pub extern "C" fn trpc_queue_cancel(
     request: u32,
     removed: &mut Job,
 ) -> u32
-    ensures { λ r. ⌜ record { queue = now (q .exit); job = now (removed .exit); error = r } ≡ cancelled (now (q .entry)) connection request ⌝ }
+    ensures { λ r. ⌜ record { queue = now (q .exit); job = now (removed .exit); error = r }
+        ≡ cancelled (now (q .entry)) connection request ⌝ }
 {
-    let answer = queue::cancel(*q, connection, request);
-    *q = answer.queue;
-    *removed = answer.job;
-    answer.error
+    let cancelled = queue::cancel(*q, connection, request);
+    *q = cancelled.queue;
+    *removed = cancelled.job;
+    cancelled.error
 }

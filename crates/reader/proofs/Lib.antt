@@ -1,2 +1,5 @@
 -- Demand 3 whole
 pub mod FaithfulReading
+-- Demand 1, of every public entry
+pub mod AsksNothing
+mod Starts

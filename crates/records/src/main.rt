@@ -14,11 +14,11 @@ use input::Head;
 use input::Input;
 use input::read_head;
 use input::read_part;
+use message::Answer;
 use message::Kind;
-use message::Record;
 use numbers::fill;
 use numbers::print_numbers;
-use print::print_record;
+use print::print_answer;
 use text::print_part;
 use text::print_text;
 
@@ -34,35 +34,41 @@ fn kind_of(number: u8) -> Kind {
     }
 }
 
-// Prints the parts of a frame, and answers the record that came with them.
-fn print_parts<'a>(
-    record: Record,
-    header: &'a [u8],
-    body: &'a [u8],
-    attachment: &'a [u8],
-) -> Record {
-    print_part(b"header", header);
-    print_part(b"body", body);
-    print_part(b"attachment", attachment);
-    record
-}
-
-// Reads a frame, prints its parts and answers its record. The reading holds references to the
-// parts, so all that is done with it here is to take it apart.
-fn read_frame<'a, 'b>(kind: Kind, frame: &'a [u8], rows: &'b mut [u32]) -> Record {
+// What a frame reads as, part by part: the reading holds references, so all that is done with it here is
+// to take one part out.
+fn header_part<'a, 'b>(kind: Kind, frame: &'a [u8], rows: &'b mut [u32]) -> &'a [u8] {
     let reading = reader::read(kind, frame, rows);
-    print_parts(
-        reading.record,
-        reading.header,
-        reading.body,
-        reading.attachment,
-    )
+    reading.header
 }
 
+fn body_part<'a, 'b>(kind: Kind, frame: &'a [u8], rows: &'b mut [u32]) -> &'a [u8] {
+    let reading = reader::read(kind, frame, rows);
+    reading.body
+}
+
+fn attachment_part<'a, 'b>(kind: Kind, frame: &'a [u8], rows: &'b mut [u32]) -> &'a [u8] {
+    let reading = reader::read(kind, frame, rows);
+    reading.attachment
+}
+
+fn answer_part<'a, 'b>(kind: Kind, frame: &'a [u8], rows: &'b mut [u32]) -> Answer {
+    let reading = reader::read(kind, frame, rows);
+    reading.answer
+}
+
+fn print_parts(kind: Kind, frame: &[u8], rows: &mut [u32]) {
+    print_part(b"header", header_part(kind, frame, rows));
+    print_part(b"body", body_part(kind, frame, rows));
+    print_part(b"attachment", attachment_part(kind, frame, rows));
+}
+
+// Reads a frame and prints its parts, its record or the error code, and its rows. Reading it again
+// leaves the row numbers as they are.
 fn print_frame(kind: Kind, frame: &[u8], rows: &mut [u32]) {
     fill(rows);
-    let record = read_frame(kind, frame, rows);
-    let count = print_record(record, frame);
+    print_parts(kind, frame, rows);
+    let answer = answer_part(kind, frame, rows);
+    let count = print_answer(answer, frame);
     print_numbers(count, frame, rows);
 }
 

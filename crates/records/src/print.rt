@@ -3,6 +3,7 @@ use crate::numbers::print_span;
 use crate::text::print_number;
 use crate::text::print_signed;
 use crate::text::print_text;
+use message::Answer;
 use message::Close;
 use message::Data;
 use message::Feedback;
@@ -15,7 +16,17 @@ use message::ResponseMeta;
 use message::Span;
 
 // Prints the record or the error code, and answers how many rows it has.
-pub(crate) fn print_record(record: Record, frame: &[u8]) -> u32 {
+pub(crate) fn print_answer(answer: Answer, frame: &[u8]) -> u32 {
+    match answer {
+        Answer::Read(record) => print_record(record, frame),
+        Answer::Refused(code) => {
+            print_number(b"refused", code);
+            0
+        }
+    }
+}
+
+fn print_record(record: Record, frame: &[u8]) -> u32 {
     match record {
         Record::Request(r) => print_request(r, frame),
         Record::Response(r) => print_response(r, frame),
@@ -23,10 +34,6 @@ pub(crate) fn print_record(record: Record, frame: &[u8]) -> u32 {
         Record::Data(r) => print_data(r),
         Record::Feedback(r) => print_feedback(r),
         Record::Close(r) => print_close(r, frame),
-        Record::Refused(code) => {
-            print_number(b"refused", code);
-            0
-        }
     }
 }
 

@@ -13,8 +13,7 @@ use Rattle.wire.specs.Varint.{lowU32, twosComplement}
 use Rattle.field_writer.specs.Writing.{putVarint, signExtended, putTag, putBytes}
 use Rattle.decoder.specs.Schema.{Integer, uint32, int32, Schema, entry}
 use Rattle.decoder.specs.Rows.{Row}
-use Rattle.decoder.specs.Fields.{State, ok, blank, Reader, aNumber, someBytes, anEntry, look, setSlot, setBytes, addEntry, fieldsIn}
-use Rattle.decoder.specs.DecoderState.{taken, startOf}
+use Rattle.decoder.specs.Fields.{State, ok, blank, startOf, Reader, aNumber, someBytes, anEntry, look, setSlot, setBytes, addEntry, withField, fieldsIn}
 use Rattle.writer.specs.Encoding.{wide, putNumber, putSome, putEntry, putRows}
 use Rattle.validation.specs.Grounds.{keysDiffer}
 use Rattle.round_trip.proofs.Written.{reads, headSize, length-bytes, number-step, bytes-step}
@@ -71,7 +70,8 @@ module _ (frame : List ℕ) (whole : Schema) (k : ℕ) where
       where
         by : (b : Bool) → eqb v 0 ≡ b
             → reads frame whole k at (cond b [] (putTag n 0 ++ putVarint (wide type v)) ++ rest) (state (p ++ (0 ∷ q)) t e)
-            ≡ reads frame whole k (at + length (cond b [] (putTag n 0 ++ putVarint (wide type v)))) rest (state (p ++ (numberAt type v ∷ q)) t e)
+            ≡ reads frame whole k (at + length (cond b [] (putTag n 0 ++ putVarint (wide type v)))) rest
+            (state (p ++ (numberAt type v ∷ q)) t e)
         by true z = rw (add-zero at, eqb-true v 0 z, number-none type)
         by false z =
             number-step frame whole k at n (state (p ++ (0 ∷ q)) t e) some high j (wide type v) rest l (wide-fits type v h .0)
@@ -81,7 +81,7 @@ module _ (frame : List ℕ) (whole : Schema) (k : ℕ) where
         → length x < 2 ^ 64 → length p ≡ j → look whole k n ≡ someBytes j
         → reads frame whole k at (putSome n x ++ rest) (state (p ++ (0 ∷ 0 ∷ q)) t e)
         ≡ reads frame whole k (at + length (putSome n x)) rest (state (p ++ (startOf (at + headSize n x) (length x) ∷ length x ∷ q)) t e)
-    unfolding putSome taken setBytes setSlot
+    unfolding putSome withField setBytes setSlot
     text-read x j p q rest t e h is-j l = by (eqb (length x) 0) refl
       where
         by : (b : Bool) → eqb (length x) 0 ≡ b
@@ -98,15 +98,15 @@ entry-read : (frame : List ℕ) (at : ℕ) (key value : List ℕ) → length key
     → let row = entryRow at key value in
     reads frame entry 0 at (putBytes 1 key ++ putBytes 2 value) blank
     ≡ ok (state (row .key ∷ row .keySize ∷ row .value ∷ row .valueSize ∷ zeros 12) [] 0)
-unfolding taken look setBytes setSlot fieldsIn
+unfolding withField look setBytes setSlot fieldsIn
 entry-read frame at key value hk hv =
     bytes-step frame entry 0 at 1 blank (omega arith) (omega arith) key (putBytes 2 value) _ hk refl
     ∙ rw (← (append-nil (putBytes 2 value)))
     (bytes-step frame entry 0 (at + length (putBytes 1 key)) 2 _ (omega arith) (omega arith) value [] _ hv refl)
 
 entry-taken : (frame : List ℕ) (read : Reader) (at : ℕ) (x : List ℕ) (st e : State) → st .entries < 64 → read entry 0 at x blank ≡ ok e
-    → taken frame read at x st anEntry ≡ ok (addEntry frame e st)
-unfolding taken
+    → withField frame read at x st anEntry ≡ ok (addEntry frame e st)
+unfolding withField
 entry-taken frame read at x st e few r = cc (lt-ltb (st .entries) 64 few)
 
 module _ (frame source : List ℕ) (whole : Schema) (k n : ℕ) (some : 0 < n) (high : n < 2 ^ 29) (l : look whole k n ≡ anEntry) where
@@ -148,5 +148,6 @@ module _ (frame source : List ℕ) (whole : Schema) (k n : ℕ) (some : 0 < n) (
       let shift : suc e + length more ≡ e + suc (length more) = omega arith in
       join frame whole k at x y rest (state slots t e) (state slots (t ++ (new ∷ [])) (suc e)) _
       (row-read row at (y ++ rest) slots t e (more ++ later) (omega arith) (omega arith) differ)
-      (rows-read rows (at + length x) rest slots (t ++ (new ∷ [])) (suc e) later (omega arith) (omega arith) (rw (append-snoc t new (more ++ later)) differ)
+      (rows-read rows (at + length x) rest slots (t ++ (new ∷ [])) (suc e) later (omega arith) (omega arith)
+      (rw (append-snoc t new (more ++ later)) differ)
       ∙ rw (append-snoc t new more, shift))

@@ -1,4 +1,5 @@
--- What the writer's frame says of itself: its fixed header is good and gives its sizes, its id and its kind, and its parts are the message and the body
+-- What the writer's frame says of itself: its fixed header is good and gives its sizes, its id and its kind, and its parts are the message
+-- and the body
 use Prim.Native.Nat.{ℕ, _+_, _*_, _-_, _/_, _%_, _^_, _<_, _≤_}
 use mathlib.Core.Path.{_≡_, refl, sym, _∙_}
 use mathlib.Core.Bool.{Bool, true, false, cond, _&&_}
@@ -8,7 +9,8 @@ use borrow.Author.Tests.{le-leb, eqb-true}
 use lib.Dec.{eqb, leb}
 use lib.ListN.{length, take, drop, getD, length-append}
 use lib.Seq.{take-at, drop-at, take-append-seam, drop-append-seam, drop-drop}
-use Rattle.frame.specs.Header.{maxFrame, be16Of, be32Of, totalOf, headerSizeOf, idOf, magicOk, dataTypeOk, streamTypeOk, totalOk, headerSizeOk, reservedOk, faultOf, headerError}
+use Rattle.frame.specs.Header.{maxFrame, be16Of, be32Of, totalOf, headerSizeOf, idOf, magicOk, dataTypeOk, streamTypeOk, totalOk}
+use Rattle.frame.specs.Header.{headerSizeOk, reservedOk, faultOf, headerError}
 use Rattle.frame.proofs.Codes.{sixteen}
 use Rattle.decoder.specs.Rows.{Row}
 use Rattle.message.specs.Records.{schemaOf}
@@ -84,7 +86,13 @@ module _ (kind : Kind) (id : ℕ) (message body : List ℕ) where
 
   pub frame-length : length (header ++ message ++ body) ≡ total
   frame-length =
-      omega (arith, length-append (header ++ message) body, length-append header message, sixteen-bytes kind total (headerSize kind message) id [])
+      omega (
+        arith,
+        length-append (header ++ message) body,
+        length-append header message,
+        sixteen-bytes kind total
+            (headerSize kind message) id [],
+      )
 
   pub behind-header : drop 16 (header ++ message ++ body) ≡ message ++ body
   behind-header = rw frame-splits (drop-at header (message ++ body) 16 (sixteen-bytes kind total (headerSize kind message) id []))
@@ -105,7 +113,8 @@ module _ (kind : Kind) (id : ℕ) (message body : List ℕ) where
         sixteen header (sixteen-bytes kind total (headerSize kind message) id [])
         ∙ passes (dataTypeOk (dataType kind)) 4 (types-good kind .0)
         (passes (streamTypeOk (dataType kind) (streamType kind)) 5 (types-good kind .1)
-        (passes (leb 16 (totalOf header) && leb (totalOf header) maxFrame) 6 (rw (total-is, le-leb 16 total (omega arith), le-leb total maxFrame small))
+        (passes (leb 16 (totalOf header) && leb (totalOf header) maxFrame) 6
+        (rw (total-is, le-leb 16 total (omega arith), le-leb total maxFrame small))
         (passes (cond (eqb (dataType kind) 0) (leb (headerSizeOf header) (totalOf header - 16)) (eqb (headerSizeOf header) 0)) 7
         (rw (total-is, size-is) (size-good (eqb (dataType kind) 0) (length message) total (omega arith)))
         refl)))
@@ -116,7 +125,8 @@ module _ (kind : Kind) (id : ℕ) (message body : List ℕ) where
         rw frame-splits
         (record {
           good = rw (take-at header (message ++ body) 16 (sixteen-bytes kind total (headerSize kind message) id [])) header-good;
-          total-is = rw (← frame-splits) frame-length ∙ sym (total-back kind total (headerSize kind message) id (message ++ body) (omega arith));
+          total-is =
+              rw (← frame-splits) frame-length ∙ sym (total-back kind total (headerSize kind message) id (message ++ body) (omega arith));
           fits = kind-back kind total (headerSize kind message) id (message ++ body);
           size-is = sym (size-back kind total (headerSize kind message) id (message ++ body) size-small);
           id-is = sym (id-back kind total (headerSize kind message) id (message ++ body) id-small);

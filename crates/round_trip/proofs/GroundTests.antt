@@ -1,11 +1,10 @@
 -- Each test of the writer, and the ground on which it fails
-use Prim.Native.Nat.{ℕ, _+_, _<_}
+use Prim.Native.Nat.{ℕ, _+_}
 use mathlib.Core.Path.{_≡_, refl, sym, _∙_}
 use mathlib.Core.Logic.{_⊎_, inl, inr}
 use mathlib.Core.Bool.{Bool, true, false, true≢false, not, _&&_, _||_}
 use mathlib.Core.List.{List, [], _∷_, _++_}
-use native.Mathlib.Omega.{arith}
-use borrow.Author.Tests.{leb-true, leb-false, eqb-true, eqb-false}
+use borrow.Author.Tests.{eqb-true, eqb-false}
 use lib.Dec.{eqb, leb, leb·zero}
 use lib.ListN.{length, getD}
 use Rattle.decoder.specs.Schema.{Schema, done, number, bytes, map, message, width}
@@ -21,54 +20,9 @@ use Rattle.decoder.proofs.RowLaws.{same-true, same-equal, length-rowsIn}
 use Rattle.outgoing.specs.Content.{kindOf, rowCount, mark, slotsOf}
 use Rattle.validation.specs.Grounds.{spansWithin, rowsWithin, noKey, keysDiffer, allZero, absentOk, bodyOk}
 use Rattle.writer.specs.Writing.{rowsOf}
-use Rattle.round_trip.specs.Refusals.{Some, spansOf, SpanPast, RowPast, keysOf, ComesAgain, AllZero, AbsentNotZero, requestMetaNumbers, responseMetaNumbers, PartNotZero, hasBody}
-
--- the test passes where its ground P does not hold
-abbrev pub Told : (ok : Bool) → (P : Type 0) → Type 0
-Told true P = P → ⊥
-Told false P = P
-
-pub record Tests (ok : Bool) (P : Type 0) : Type 0 where
-  pub told : Told ok P
-
--- the same ground in other words
-restated : {ok : Bool} {P Q : Type 0} → (P → Q) → (Q → P) → Tests ok P → Tests ok Q
-restated {ok} {P} {Q} f g t = record { told = by ok (t .told) }
-  where
-    by : (ok : Bool) → Told ok P → Told ok Q
-    by true p = λ y. p (g y)
-    by false p = f p
-
-neither : {P Q : Type 0} → (P → ⊥) → (Q → ⊥) → P ⊎ Q → ⊥
-neither p q (inl x) = p x
-neither p q (inr y) = q y
-
-both : {a b : Bool} {P Q : Type 0} → Tests a P → Tests b Q → Tests (a && b) (P ⊎ Q)
-both {a} {b} {P} {Q} p q = record { told = by a b (p .told) (q .told) }
-  where
-    by : (a b : Bool) → Told a P → Told b Q → Told (a && b) (P ⊎ Q)
-    by true true p q = neither p q
-    by true false p q = inr q
-    by false b p q = inl p
-
-never : Tests true ⊥
-never = record { told = λ g. g }
-
-pub at-most : (a b : ℕ) → Tests (leb a b) (b < a)
-at-most a b = record { told = by (leb a b) refl }
-  where
-    by : (ok : Bool) → leb a b ≡ ok → Told ok (b < a)
-    by true e = λ (g : b < a). omega (arith, leb-true a b e)
-    by false e = leb-false a b e
-
--- there are none unless they are allowed
-pub none-unless : (allowed : Bool) (n : ℕ) → Tests (allowed || eqb n 0) ((allowed ≡ false) × (0 < n))
-none-unless allowed n = record { told = by allowed (eqb n 0) refl }
-  where
-    by : (allowed ok : Bool) → eqb n 0 ≡ ok → Told (allowed || ok) ((allowed ≡ false) × (0 < n))
-    by true ok e = λ g. true≢false (g .0)
-    by false true e = λ g. omega (arith, eqb-true n 0 e, g .1)
-    by false false e = (refl, omega (arith, eqb-false n 0 e))
+use Rattle.refusals.specs.Grounds.{Some}
+use Rattle.refusals.proofs.Tests.{Told, Tests, restated, both, never, at-most}
+use Rattle.round_trip.specs.Refusals.{recordSpans, SpanPast, RowPast, keysOf, ComesAgain, AllZero, AbsentNotZero, requestMetaNumbers, responseMetaNumbers, PartNotZero, hasBody}
 
 -- ---- 17
 module _ {A : Type 0} (P : A → Type 0) where
@@ -95,7 +49,7 @@ spansIn (bytes n name more) i slots = record { start = getD slots i 0; len = get
 spansIn (map n name more) i slots = spansIn more i slots
 spansIn (message n name inner more) i slots = spansIn inner (i + 1) slots ++ spansIn more (i + 1 + width inner) slots
 
-spans-are : (r : Record) → spansIn (schemaOf (kindOf r)) 0 (slotsOf r) ≡ spansOf r
+spans-are : (r : Record) → spansIn (schemaOf (kindOf r)) 0 (slotsOf r) ≡ recordSpans r
 unfolding spansIn kindOf slotsOf width
 spans-are (records.Request r) = refl
 spans-are (records.Response r) = refl
@@ -103,14 +57,15 @@ spans-are (records.Init r) = refl
 spans-are (records.Data r) = refl
 spans-are (records.Feedback r) = refl
 spans-are (records.Close r) = refl
-spans-are (records.Refused code) = refl
 
 module _ (source : List ℕ) where
-  spans-within : (sch : Schema) (i : ℕ) (slots : List ℕ) → Tests (spansWithin (length source) sch i slots) (Some (SpanPast source) (spansIn sch i slots))
+  spans-within : (sch : Schema) (i : ℕ) (slots : List ℕ)
+      → Tests (spansWithin (length source) sch i slots) (Some (SpanPast source) (spansIn sch i slots))
   unfolding spansWithin spansIn
   spans-within done i slots = never
   spans-within (number type n name more) i slots = spans-within more (i + 1) slots
-  spans-within (bytes n name more) i slots = both (at-most (getD slots i 0 + getD slots (i + 1) 0) (length source)) (spans-within more (i + 2) slots)
+  spans-within (bytes n name more) i slots =
+      both (at-most (getD slots i 0 + getD slots (i + 1) 0) (length source)) (spans-within more (i + 2) slots)
   spans-within (map n name more) i slots = spans-within more i slots
   spans-within (message n name inner more) i slots =
       let first = spansIn inner (i + 1) slots in
@@ -118,7 +73,7 @@ module _ (source : List ℕ) where
       restated (some-join (SpanPast source) first later) (some-split (SpanPast source) first later)
       (both (spans-within inner (i + 1) slots) (spans-within more (i + 1 + width inner) slots))
 
-  pub spans-ok : (r : Record) → Tests (spansWithin (length source) (schemaOf (kindOf r)) 0 (slotsOf r)) (Some (SpanPast source) (spansOf r))
+  pub spans-ok : (r : Record) → Tests (spansWithin (length source) (schemaOf (kindOf r)) 0 (slotsOf r)) (Some (SpanPast source) (recordSpans r))
   spans-ok r = rw (spans-are r) at (spans-within (schemaOf (kindOf r)) 0 (slotsOf r))
 
   pub rows-ok : (rows : List Row) → Tests (rowsWithin (length source) rows) (Some (RowPast source) rows)
@@ -131,7 +86,7 @@ module _ (source : List ℕ) where
   other-key : (a b : List ℕ) → Tests (not (sameBytes a b)) (a ≡ b)
   other-key a b = record { told = by (sameBytes a b) refl }
     where
-      by : (same : Bool) → sameBytes a b ≡ same → Told (not same) (a ≡ b)
+      by : (same : Bool) → sameBytes a b ≡ same → Told (not (not same)) (a ≡ b)
       by true e = same-equal a b e
       by false e = λ g. true≢false (sym (same-true a b g) ∙ e)
 
@@ -150,12 +105,12 @@ zerosOk : List ℕ → Bool
 zerosOk [] = true
 zerosOk (n ∷ ns) = eqb n 0 && zerosOk ns
 
-zeros-ok : (ns : List ℕ) → Told (zerosOk ns) (AllZero ns → ⊥)
+zeros-ok : (ns : List ℕ) → Told (not (zerosOk ns)) (AllZero ns → ⊥)
 unfolding zerosOk
 zeros-ok [] = λ k. k tt
 zeros-ok (n ∷ ns) = by (eqb n 0) (zerosOk ns) refl (zeros-ok ns)
   where
-    by : (z ok : Bool) → eqb n 0 ≡ z → Told ok (AllZero ns → ⊥) → Told (z && ok) (AllZero (n ∷ ns) → ⊥)
+    by : (z ok : Bool) → eqb n 0 ≡ z → Told (not ok) (AllZero ns → ⊥) → Told (not (z && ok)) (AllZero (n ∷ ns) → ⊥)
     by true true e q = λ k. q (λ zs. k (eqb-true n 0 e, zs))
     by true false e q = λ zs. q (zs .1)
     by false ok e q = λ zs. eqb-false n 0 e (zs .0)
@@ -178,10 +133,10 @@ parts-ok (records.Init r) numbers =
 parts-ok (records.Data r) numbers = never
 parts-ok (records.Feedback r) numbers = never
 parts-ok (records.Close r) numbers = never
-parts-ok (records.Refused code) numbers = never
 
 -- ---- 15
-pub body-tests : (kind : Kind) (slots : List ℕ) (size : ℕ) → bodyOk kind slots size ≡ leb (attachmentSizeOf kind slots) size && (hasBody kind || eqb size 0)
+pub body-tests : (kind : Kind) (slots : List ℕ) (size : ℕ)
+    → bodyOk kind slots size ≡ leb (attachmentSizeOf kind slots) size && (hasBody kind || eqb size 0)
 unfolding bodyOk attachmentSizeOf hasBody
 body-tests kinds.Request slots size = sym (and-true _)
 body-tests kinds.Response slots size = sym (and-true _)

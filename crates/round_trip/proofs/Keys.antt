@@ -42,7 +42,8 @@ module _ (source : List ℕ) where
   no-key : (key : List ℕ) (a : List Row) (row : Row) (b : List Row) → noKey source key (a ++ (row ∷ b)) ≡ true
       → sameBytes (keyOf source row) key ≡ false
   unfolding noKey
-  no-key key [] row b h = negated (sameBytes (keyOf source row) key) (both (not (sameBytes (keyOf source row) key)) (noKey source key b) h .0)
+  no-key key [] row b h =
+      negated (sameBytes (keyOf source row) key) (both (not (sameBytes (keyOf source row) key)) (noKey source key b) h .0)
   no-key key (x ∷ a) row b h =
       no-key key a row b (both (not (sameBytes (keyOf source x) key)) (noKey source key (a ++ (row ∷ b))) h .1)
 
@@ -73,11 +74,11 @@ module _ (source : List ℕ) where
 -- ---- the bytes alone
 abbrev noPair : (key : List ℕ) → List Pair → Bool
 noPair key [] = true
-noPair key (p ∷ ps) = not (sameBytes (p .key) key) && noPair key ps
+noPair key (p ∷ ps) = not (sameBytes (p .key .content) key) && noPair key ps
 
 abbrev apart : List Pair → Bool
 apart [] = true
-apart (p ∷ ps) = noPair (p .key) ps && apart ps
+apart (p ∷ ps) = noPair (p .key .content) ps && apart ps
 
 noKey-pairs : (source key : List ℕ) (rows : List Row) → noKey source key rows ≡ noPair key (pairsOf source rows)
 unfolding noKey

@@ -11,8 +11,7 @@ use Rattle.wire.specs.Varint.{lowU32}
 use Rattle.field_writer.specs.Writing.{putBytes}
 use Rattle.decoder.specs.Schema.{Integer, uint32, int32, Schema, done, number, bytes, map, message, width}
 use Rattle.decoder.specs.Rows.{Row}
-use Rattle.decoder.specs.Fields.{partOf}
-use Rattle.decoder.specs.DecoderState.{startOf}
+use Rattle.decoder.specs.Fields.{startOf, partOf}
 use Rattle.writer.specs.Encoding.{putNumber, putSome, putEntry, putRows, putFields}
 use Rattle.round_trip.proofs.Written.{headSize}
 
@@ -65,7 +64,8 @@ module _ (source : List ℕ) (rows : List Row) (slots : List ℕ) where
   slotsAt (number type n name more) i at =
       numberAt type (getD slots i 0) ∷ slotsAt more (i + 1) (at + length (putNumber type n (getD slots i 0)))
   slotsAt (bytes n name more) i at =
-      startOf (at + headSize n (textAt i)) (length (textAt i)) ∷ length (textAt i) ∷ slotsAt more (i + 2) (at + length (putSome n (textAt i)))
+      startOf (at + headSize n (textAt i)) (length (textAt i)) ∷ length (textAt i)
+      ∷ slotsAt more (i + 2) (at + length (putSome n (textAt i)))
   slotsAt (map n name more) i at = slotsAt more i (at + length (putRows source n rows))
   slotsAt (message n name inner more) i at =
       cond (eqb (getD slots i 0) 0) 0 1
@@ -122,7 +122,8 @@ module _ (frame : List ℕ) (at : ℕ) (x y : List ℕ) (h : Stands frame at (x 
 
   pub stands-first : Stands frame at x
   stands-first =
-      sym (take-take (length x) (length (x ++ y)) (drop at frame) (omega (arith, length-append x y))) ∙ ap (take (length x)) h ∙ take-append-seam x y
+      sym (take-take (length x) (length (x ++ y)) (drop at frame) (omega (arith, length-append x y))) ∙ ap (take (length x)) h
+      ∙ take-append-seam x y
 
   pub stands-later : Stands frame (at + length x) y
   stands-later =

@@ -17,6 +17,6 @@ mod MessageRead
 mod FrameBack
 mod RecordBack
 mod Accepted
+mod Held
 mod FrameRead
 mod GroundTests
-mod GroundOrder

@@ -1,6 +1,8 @@
--- What is written for a schema, wherever it stands in a frame, is read as a message that says the same: the same numbers, present marks and bytes, and
--- the rows in their order with the same keys and values. It is no statement about the fixed header, nor about bytes that were not written so.
--- Ruled out: a writer that writes the rows of a map in another order, and a reader that takes the start of a byte field from the start of its message.
+-- What is written for a schema, wherever it stands in a frame, is read as a message that says the same: the same numbers, present marks,
+-- lengths and bytes, and the rows in their order with the same keys and values. It is no statement about the fixed header, nor about bytes
+-- that were not written so.
+-- Ruled out: a writer that writes the rows of a map in another order, and a reader that takes the start of a byte field from the start of
+-- its message.
 use Prim.Native.Nat.{ℕ, _+_, _-_, _^_, _<_, _≤_}
 use mathlib.Core.Path.{_≡_, refl, ap, _∙_}
 use mathlib.Core.Bool.{Bool, true, false, cond}
@@ -12,7 +14,7 @@ use Rattle.decoder.specs.Schema.{Schema, width}
 use Rattle.decoder.specs.Rows.{Row}
 use Rattle.decoder.specs.Fields.{State, ok, fieldsIn, readMessage}
 use Rattle.writer.specs.Encoding.{putFields}
-use Rattle.validation.specs.Grounds.{keysDiffer, absentOk}
+use Rattle.validation.specs.Grounds.{spansWithin, rowsWithin, keysDiffer, absentOk}
 use Rattle.round_trip.specs.Meaning.{InRange}
 use Rattle.round_trip.proofs.Said.{saidIn, hasRows, kept, MessageBack}
 use Rattle.round_trip.proofs.Formed.{WellFormed}
@@ -49,17 +51,18 @@ module _ (source : List ℕ) (rows : List Row) (sch : Schema) where
 pub message-back : (frame source before rest : List ℕ) (rows : List Row) (sch : Schema) (slots : List ℕ)
     → frame ≡ before ++ putFields source rows sch 0 slots ++ rest
     → WellFormed sch → InRange (saidIn source sch 0 slots)
-    → length rows ≤ 64 → keysDiffer source rows ≡ true → absentOk rows sch 0 slots ≡ true
+    → length rows ≤ 64 → spansWithin (length source) sch 0 slots ≡ true → rowsWithin (length source) rows ≡ true
+    → keysDiffer source rows ≡ true → absentOk rows sch 0 slots ≡ true
     → length (putFields source rows sch 0 slots) < 2 ^ 64
     → (st : State)
     × (readMessage frame sch (length before) (putFields source rows sch 0 slots) ≡ ok st)
     × MessageBack frame source rows sch slots st
 unfolding readMessage fieldsIn
-message-back frame source before rest rows sch slots is-frame formed fits few differ absent small =
+message-back frame source before rest rows sch slots is-frame formed fits few spans in-rows differ absent small =
     let w = putFields source rows sch 0 slots in
     let at = length before in
     let here : Stands frame at w = rw is-frame (stands before w rest) in
-    let back = schema-back frame source rows slots sch 0 (formed .0) 0 at absent here in
+    let back = schema-back frame source rows slots in-rows sch 0 (formed .0) 0 at spans absent here in
     let read-rows = entriesAt source rows slots sch 0 at in
     let count = same-count frame source read-rows (kept sch rows) (back .rows-are) in
     let unlike = same-differ frame source read-rows (kept sch rows) (back .rows-are) ∙ kept-differ source rows sch differ in

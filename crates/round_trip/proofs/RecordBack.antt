@@ -17,9 +17,10 @@ use Rattle.decoder.specs.Rows.{rowsIn}
 use Rattle.message.specs.declared.Kind.{Kind}
 use Rattle.message.specs.declared.Kind.the-variants as kinds
 use Rattle.message.specs.declared.Record.{Record}
-use Rattle.message.specs.declared.Record.the-variants.{Request, Response, Init, Data, Feedback, Close, Refused}
+use Rattle.message.specs.declared.Record.the-variants.{Request, Response, Init, Data, Feedback, Close}
+use Rattle.message.specs.declared.Answer.the-variants.{Read}
 use Rattle.outgoing.specs.Content.{kindOf, recordId, rowCount, bits, mark, slotsOf}
-use Rattle.round_trip.specs.Meaning.{Said, unsigned, signed, present, text, fieldsOf, InRange, pairsOf, says, meaning}
+use Rattle.round_trip.specs.Meaning.{Said, unsigned, signed, present, text, fieldsOf, InRange, pairsOf, says, answerMeaning}
 use Rattle.round_trip.proofs.Said.{saidIn}
 
 -- an int32 is what its 32 bits say, and a mark what its slot says
@@ -32,7 +33,8 @@ mark-said : (b : Bool) → not (eqb (mark b) 0) ≡ b
 mark-said true = refl
 mark-said false = refl
 
-pub record-said : (source : List ℕ) (r : Record) → InRange (fieldsOf source r) → saidIn source (schemaOf (kindOf r)) 0 (slotsOf r) ≡ fieldsOf source r
+pub record-said : (source : List ℕ) (r : Record) → InRange (fieldsOf source r)
+    → saidIn source (schemaOf (kindOf r)) 0 (slotsOf r) ≡ fieldsOf source r
 unfolding saidIn fieldsOf slotsOf kindOf width
 record-said source (Request r) h = refl
 record-said source (Response r) h = rw (signed-bits (r .ret) (h .1 .1 .1 .0), signed-bits (r .«func_ret») (h .1 .1 .1 .1 .0))
@@ -42,12 +44,12 @@ record-said source (Data r) h = refl
 record-said source (Feedback r) h = refl
 record-said source (Close r) h =
     rw (signed-bits (r .«close_type») (h .0), signed-bits (r .ret) (h .1 .0), signed-bits (r .«func_ret») (h .1 .1 .1 .0))
-record-said source (Refused code) h = refl
 
 -- what the record of slots that were read means
 pub read-says : (kind : Kind) (f : List ℕ) (id : ℕ) (slots : List ℕ) (count : ℕ) (numbers : List ℕ)
-    → meaning (recordOf kind id slots count) f numbers ≡ says kind id (saidIn f (schemaOf kind) 0 slots) (pairsOf f (rowsIn count numbers))
-unfolding meaning recordOf saidIn fieldsOf kindOf recordId rowCount width
+    → answerMeaning (Read (recordOf kind id slots count)) f numbers
+    ≡ says kind id (saidIn f (schemaOf kind) 0 slots) (pairsOf f (rowsIn count numbers))
+unfolding answerMeaning recordOf saidIn fieldsOf kindOf recordId rowCount width
 read-says kinds.Request f id slots count numbers = refl
 read-says kinds.Response f id slots count numbers = refl
 read-says kinds.Init f id slots count numbers = refl

@@ -8,15 +8,15 @@ use lib.Dec.{eqb}
 use Rattle.wire.specs.Varint.{lowI32}
 use Rattle.decoder.specs.Schema.{Schema, uint32, int32, done, number, bytes, map, message, width}
 use Rattle.decoder.specs.Rows.{Row}
-use Rattle.decoder.specs.Fields.{State, partOf}
-use Rattle.round_trip.specs.Meaning.{Said, unsigned, signed, present, text, pairsOf}
+use Rattle.decoder.specs.Fields.{State}
+use Rattle.round_trip.specs.Meaning.{bytesFrom, Said, unsigned, signed, present, text, pairsOf}
 
 -- the fields of the schema, its first slot being i
 unfoldable pub saidIn : (source : List ℕ) → Schema → (i : ℕ) → (slots : List ℕ) → List Said
 saidIn source done i l = []
 saidIn source (number uint32 n name more) i l = unsigned (getD l i 0) ∷ saidIn source more (i + 1) l
 saidIn source (number int32 n name more) i l = signed (lowI32 (getD l i 0)) ∷ saidIn source more (i + 1) l
-saidIn source (bytes n name more) i l = text (partOf source (getD l i 0) (getD l (i + 1) 0)) ∷ saidIn source more (i + 2) l
+saidIn source (bytes n name more) i l = text (bytesFrom source (getD l i 0) (getD l (i + 1) 0)) ∷ saidIn source more (i + 2) l
 saidIn source (map n name more) i l = saidIn source more i l
 saidIn source (message n name inner more) i l =
     present (not (eqb (getD l i 0) 0)) ∷ (saidIn source inner (i + 1) l ++ saidIn source more (i + 1 + width inner) l)

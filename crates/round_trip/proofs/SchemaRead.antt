@@ -1,5 +1,5 @@
--- All that is written for a schema is read, and its values are where `Landing` says: one induction over the schema, for a message, a part and any rest of
--- either.
+-- All that is written for a schema is read, and its values are where `Landing` says: one induction over the schema, for a message, a part
+-- and any rest of either.
 use Prim.Native.Nat.{ℕ, _+_, _^_, _<_, _≤_}
 use Prim.Native.String.{String}
 use mathlib.Core.Path.{_≡_, refl, sym, ap, _∙_}
@@ -14,15 +14,15 @@ use borrow.Author.Tests.{eq-eqb, ne-eqb, eqb-true}
 use Rattle.field_writer.specs.Writing.{putBytes}
 use Rattle.decoder.specs.Schema.{Integer, uint32, int32, Schema, done, number, bytes, map, message, width}
 use Rattle.decoder.specs.Rows.{Row}
-use Rattle.decoder.specs.Fields.{State, Target, aNumber, someBytes, anEntry, aMessage, look, setSlot, fieldsIn}
-use Rattle.decoder.specs.DecoderState.{taken, startOf}
+use Rattle.decoder.specs.Fields.{State, Target, aNumber, someBytes, anEntry, aMessage, look, setSlot, startOf, withField, fieldsIn}
 use Rattle.writer.specs.Encoding.{putNumber, putSome, putRows, putFields}
 use Rattle.validation.specs.Grounds.{keysDiffer}
 use Rattle.round_trip.specs.Meaning.{Said, unsigned, signed, present, text, InRange}
 use Rattle.round_trip.proofs.Said.{saidIn}
 use Rattle.round_trip.proofs.Formed.{Formed}
 use Rattle.round_trip.proofs.Written.{reads, headSize, length-bytes, bytes-step}
-use Rattle.round_trip.proofs.Landing.{zeros, numberAt, rowsAt, put, putPart, textAt, slotsAt, entriesAt, partSlots, partEntries, length-part}
+use Rattle.round_trip.proofs.Landing.{zeros, numberAt, rowsAt, put, putPart, textAt, slotsAt, entriesAt, partSlots, partEntries}
+use Rattle.round_trip.proofs.Landing.{length-part}
 use Rattle.round_trip.proofs.Keys.{differ-first}
 use Rattle.round_trip.proofs.FieldsRead.{state, Fits, join, number-read, text-read, rows-read}
 
@@ -106,7 +106,13 @@ module _ (frame source : List ℕ) (rows : List Row) (slots : List ℕ) where
         go whole k n up (p ++ own) j there agree i (at + length x) fits q rest (t ++ new) (e + length new) (omega arith) (omega arith)
         (rw (append-assoc t new later) differ) in
         join frame whole k at x y rest before _ _ first
-        (rw (append-assoc p own (zeros (width more) ++ q), append-assoc p own (landed more i (at + length x) ++ q), append-assoc t new later, sum) at rest-read)
+        (rw (
+          append-assoc p own (zeros (width more) ++ q),
+          append-assoc p own
+              (landed more i (at + length x) ++ q),
+          append-assoc t new later,
+          sum,
+        ) at rest-read)
 
   -- ---- a part
   module _ (whole : Schema) (k n : ℕ) (some : 0 < n) (high : n < 2 ^ 29) (inner : Schema) (go : Reads inner) (up : Formed 0 inner)
@@ -122,15 +128,22 @@ module _ (frame source : List ℕ) (rows : List Row) (slots : List ℕ) where
         → keysDiffer frame (t ++ entries inner (i + 1) inside) ≡ true
         → reads frame whole k at (putBytes n x ++ rest) (state (p ++ (0 ∷ (zeros (width inner) ++ q))) t e)
         ≡ reads frame whole k (at + length (putBytes n x)) rest
-        (state (p ++ (1 ∷ (landed inner (i + 1) inside ++ q))) (t ++ entries inner (i + 1) inside) (e + length (entries inner (i + 1) inside)))
-    unfolding taken setSlot fieldsIn
+        (state (p ++ (1 ∷ (landed inner (i + 1) inside ++ q))) (t ++ entries inner (i + 1) inside)
+        (e + length (entries inner (i + 1) inside)))
+    unfolding withField setSlot fieldsIn
     present-read small few differ =
         let size = length-bytes n x in
         let there : length (p ++ (1 ∷ [])) ≡ j + 1 = length-append p (1 ∷ []) ∙ omega arith in
-        let read = go inner (j + 1) 0 up (p ++ (1 ∷ [])) (j + 1) there (λ (n : ℕ) (h : 0 < n). refl) (i + 1) inside fits q [] t e (omega arith) few differ in
+        let read = go inner (j + 1) 0 up (p ++ (1 ∷ [])) (j + 1) there (λ (n : ℕ) (h : 0 < n). refl) (i + 1) inside fits q [] t e
+        (omega arith) few differ in
         bytes-step frame whole k at n _ some high x rest _ (omega arith)
         (rw (l, set-at p 0 (zeros (width inner) ++ q) 1 j is-j)
-        (rw (append-nil x, append-assoc p (1 ∷ []) (zeros (width inner) ++ q), append-assoc p (1 ∷ []) (landed inner (i + 1) inside ++ q)) at read))
+        (rw (
+          append-nil x,
+          append-assoc p (1 ∷ []) (zeros (width inner) ++ q),
+          append-assoc p (1 ∷ [])
+              (landed inner (i + 1) inside ++ q),
+        ) at read))
 
     part-read : (b : Bool)
         → let w = cond b [] (putBytes n x) in
@@ -157,7 +170,8 @@ module _ (frame source : List ℕ) (rows : List Row) (slots : List ℕ) where
       (others whole k m n (up .0 .0) (aNumber j) more (j + 1) agree) (i + 1) at (number .1) x q rest _ t [] e
       small few differ
       (rw (append-nil t, add-zero e)
-      (number-read frame whole k n at (omega arith) (up .0 .1) type v j p (zeros (width more) ++ q) (written more (i + 1) ++ rest) t e (number .0) is-j
+      (number-read frame whole k n at (omega arith) (up .0 .1) type v j p (zeros (width more) ++ q) (written more (i + 1) ++ rest) t e
+      (number .0) is-j
       (found whole k m n (up .0 .0) (aNumber j) more (j + 1) agree)))
 
   read-bytes : (n : ℕ) (name : String) (more : Schema) → Reads more → Reads (bytes n name more)
@@ -180,9 +194,11 @@ module _ (frame source : List ℕ) (rows : List Row) (slots : List ℕ) where
       let x = putRows source n rows in
       let new = rowsAt source n rows at in
       let later = entries more i (at + length x) in
-      onward whole k n more go (up .1) p [] j (omega arith) (others whole k m n (up .0 .0) anEntry more j agree) i at fits x q rest _ t new e
+      onward whole k n more go (up .1) p [] j (omega arith)
+      (others whole k m n (up .0 .0) anEntry more j agree) i at fits x q rest _ t new e
       small few differ
-      (rows-read frame source whole k n (omega arith) (up .0 .1) (found whole k m n (up .0 .0) anEntry more j agree) rows at (written more i ++ rest) _ t e later
+      (rows-read frame source whole k n (omega arith) (up .0 .1) (found whole k m n (up .0 .0) anEntry more j agree) rows at
+      (written more i ++ rest) _ t e later
       (omega (arith, length-append x (written more i))) (omega (arith, length-append new later)) differ)
 
   read-message : (n : ℕ) (name : String) (inner more : Schema) → Reads inner → Reads more → Reads (message n name inner more)

@@ -1,27 +1,28 @@
--- What stands where `Landing` says is what was to be written: the same numbers, present marks and bytes, and the same keys and values in the same order.
-use Prim.Native.Nat.{ℕ, suc, _+_, _%_, _^_}
+-- What stands where `Landing` says is what was to be written: the same numbers, present marks, lengths and bytes, and the same keys and
+-- values in the same order.
+use Prim.Native.Nat.{ℕ, suc, _+_, _≤_, _%_, _^_}
 use Prim.Native.String.{String}
 use mathlib.Core.Path.{_≡_, refl, sym, ap, ap₂, _∙_}
 use mathlib.Core.Bool.{Bool, true, false, cond, not, _&&_, _||_}
 use mathlib.Core.List.{List, [], _∷_, _++_, append-assoc, append-nil}
-use lib.ListN.{length, getD, length-append, length-replicate, replicate-append-replicate}
-use lib.Seq.{getD-at}
-use lib.Dec.{eqb}
+use lib.ListN.{length, drop, getD, length-append, length-drop, length-replicate, replicate-append-replicate}
+use lib.Seq.{getD-at, length-take-le}
+use lib.Dec.{eqb, leb}
 use native.Mathlib.Omega.{arith}
-use borrow.Author.Tests.{ne-eqb, eqb-true}
+use borrow.Author.Tests.{ne-eqb, eqb-true, leb-true}
 use Rattle.wire.specs.Varint.{twosComplement, lowI32}
 use Rattle.field_writer.specs.Writing.{putVarint, putTag, putBytes}
 use Rattle.decoder.specs.Schema.{Integer, uint32, int32, Schema, done, number, bytes, map, message, width}
 use Rattle.decoder.specs.Rows.{Row}
-use Rattle.decoder.specs.Fields.{partOf}
-use Rattle.decoder.specs.DecoderState.{startOf}
+use Rattle.decoder.specs.Fields.{startOf, partOf}
 use Rattle.writer.specs.Encoding.{putNumber, putSome, putEntry, putRows, putFields}
-use Rattle.validation.specs.Grounds.{allZero, absentOk}
-use Rattle.round_trip.specs.Meaning.{Said, unsigned, signed, Pair, pairsOf}
+use Rattle.validation.specs.Grounds.{spansWithin, rowsWithin, allZero, absentOk}
+use Rattle.round_trip.specs.Meaning.{Bytes, bytesFrom, Said, unsigned, signed, text, Pair, pairsOf}
 use Rattle.round_trip.proofs.Said.{saidIn, hasRows, kept}
 use Rattle.round_trip.proofs.Formed.{hasParts, Formed}
 use Rattle.round_trip.proofs.Written.{headSize}
-use Rattle.round_trip.proofs.Landing.{zeros, numberAt, keyOf, valueOf, rowsAt, put, putPart, textAt, slotsAt, entriesAt, partSlots, partEntries, length-part, Stands, stands-first, stands-later}
+use Rattle.round_trip.proofs.Landing.{zeros, numberAt, keyOf, valueOf, rowsAt, put, putPart, textAt, slotsAt, entriesAt, partSlots}
+use Rattle.round_trip.proofs.Landing.{partEntries, length-part, Stands, stands-first, stands-later}
 use Rattle.round_trip.proofs.Keys.{both, pairs-append}
 
 -- ---- bytes
@@ -41,22 +42,39 @@ module _ (frame : List ℕ) where
   text-stands at n (b ∷ x) h =
       content-stands at n (b ∷ x) (rw (ne-eqb (suc (length x)) 0 (λ (e : suc (length x) ≡ 0). omega arith)) at h)
 
+  -- bytes that lie within the source have the length that was given
+  all-there : (source : List ℕ) (start len : ℕ) → start + len ≤ length source → length (partOf source start len) ≡ len
+  all-there source start len h = length-take-le len (drop start source) (omega (arith, length-drop start source, h))
+
+  same-bytes : (source : List ℕ) (start len at : ℕ) → leb (start + len) (length source) ≡ true → Stands frame at (partOf source start len)
+      → let x = partOf source start len in bytesFrom frame (startOf at (length x)) (length x) ≡ bytesFrom source start len
+  same-bytes source start len at h here =
+      ap₂ (λ (n : ℕ) (l : List ℕ). record { size = n; content = l }) (all-there source start len (leb-true (start + len) (length source) h))
+      (named at (partOf source start len) here)
+
   -- ---- rows
-  rows-said : (source : List ℕ) (n : ℕ) (rows : List Row) (at : ℕ) → Stands frame at (putRows source n rows)
+  rows-said : (source : List ℕ) (n : ℕ) (rows : List Row) (at : ℕ) → rowsWithin (length source) rows ≡ true
+      → Stands frame at (putRows source n rows)
       → pairsOf frame (rowsAt source n rows at) ≡ pairsOf source rows
-  unfolding putRows putEntry rowsAt
-  rows-said source n [] at h = refl
-  rows-said source n (row ∷ rows) at h =
+  unfolding putRows putEntry rowsAt rowsWithin
+  rows-said source n [] at ok h = refl
+  rows-said source n (row ∷ rows) at ok h =
+      let in-row = leb (row .key + row .keySize) (length source) && leb (row .value + row .valueSize) (length source) in
+      let oks = both in-row (rowsWithin (length source) rows) ok in
+      let ins = both (leb (row .key + row .keySize) (length source)) (leb (row .value + row .valueSize) (length source)) (oks .0) in
       let key = keyOf source row in
       let value = valueOf source row in
       let x = putEntry source row in
       let inside = at + headSize n x in
       let here = content-stands at n x (stands-first frame at (putBytes n x) (putRows source n rows) h) in
-      let k = named (inside + headSize 1 key) key (content-stands inside 1 key (stands-first frame inside (putBytes 1 key) (putBytes 2 value) here)) in
+      let k = same-bytes source (row .key) (row .keySize) (inside + headSize 1 key) (ins .0)
+      (content-stands inside 1 key (stands-first frame inside (putBytes 1 key) (putBytes 2 value) here)) in
       let there = inside + length (putBytes 1 key) in
-      let v = named (there + headSize 2 value) value (content-stands there 2 value (stands-later frame inside (putBytes 1 key) (putBytes 2 value) here)) in
-      let later = rows-said source n rows (at + length (putBytes n x)) (stands-later frame at (putBytes n x) (putRows source n rows) h) in
-      rw (k, v, later)
+      let v = same-bytes source (row .value) (row .valueSize) (there + headSize 2 value) (ins .1)
+      (content-stands there 2 value (stands-later frame inside (putBytes 1 key) (putBytes 2 value) here)) in
+      let later = rows-said source n rows (at + length (putBytes n x)) (oks .1)
+      (stands-later frame at (putBytes n x) (putRows source n rows) h) in
+      ap₂ (λ (p : Pair) (ps : List Pair). p ∷ ps) (ap₂ (λ (a b : Bytes). record { key = a; value = b }) k v) later
 
 -- ---- fields
 abbrev numberSaid : Integer → ℕ → Said
@@ -102,7 +120,8 @@ module _ (frame source : List ℕ) (rows : List Row) (slots : List ℕ) where
       by int32 e = rw (here, e, later)
 
   bytes-says : (n : ℕ) (name : String) (more : Schema) (i a size : ℕ) (own : List ℕ)
-      → partOf frame a size ≡ textAt source rows slots i → Says more (i + 2) own → Says (bytes n name more) i (a ∷ size ∷ own)
+      → bytesFrom frame a size ≡ bytesFrom source (getD slots i 0) (getD slots (i + 1) 0) → Says more (i + 2) own
+      → Says (bytes n name more) i (a ∷ size ∷ own)
   unfolding saidIn
   bytes-says n name more i a size own is-text go p q j is-j =
       let next : length (p ++ (a ∷ [])) ≡ j + 1 = length-append p (a ∷ []) ∙ omega arith in
@@ -112,7 +131,7 @@ module _ (frame source : List ℕ) (rows : List Row) (slots : List ℕ) where
       rw (append-assoc p (a ∷ []) (size ∷ (own ++ q))) at (getD-at (p ++ (a ∷ [])) size (own ++ q) 0 (j + 1) next) in
       let later : saidIn frame more (j + 2) (p ++ (a ∷ size ∷ (own ++ q))) ≡ saidIn source more (i + 2) slots =
       rw (append-assoc p (a ∷ size ∷ []) (own ++ q)) at (go (p ++ (a ∷ size ∷ [])) q (j + 2) there) in
-      rw (start, long, later, is-text)
+      rw (start, long) (ap₂ (λ (t : Bytes) (l : List Said). text t ∷ l) is-text later)
 
   message-says : (n : ℕ) (name : String) (inner more : Schema) (i mark : ℕ) (in-own own : List ℕ)
       → eqb mark 0 ≡ eqb (getD slots i 0) 0 → length in-own ≡ width inner
@@ -124,9 +143,11 @@ module _ (frame source : List ℕ) (rows : List Row) (slots : List ℕ) where
       let there : length (p ++ (mark ∷ in-own)) ≡ j + 1 + width inner = length-append p (mark ∷ in-own) ∙ omega arith in
       let here : getD l j 0 ≡ mark = getD-at p mark ((in-own ++ own) ++ q) 0 j is-j in
       let first : saidIn frame inner (j + 1) l ≡ saidIn source inner (i + 1) slots =
-      rw (append-assoc in-own own q) (rw (append-assoc p (mark ∷ []) (in-own ++ (own ++ q))) at (go-in (p ++ (mark ∷ [])) (own ++ q) (j + 1) next)) in
+      rw (append-assoc in-own own q)
+      (rw (append-assoc p (mark ∷ []) (in-own ++ (own ++ q))) at (go-in (p ++ (mark ∷ [])) (own ++ q) (j + 1) next)) in
       let later : saidIn frame more (j + 1 + width inner) l ≡ saidIn source more (i + 1 + width inner) slots =
-      rw (append-assoc in-own own q) (rw (append-assoc p (mark ∷ in-own) (own ++ q)) at (go (p ++ (mark ∷ in-own)) q (j + 1 + width inner) there)) in
+      rw (append-assoc in-own own q)
+      (rw (append-assoc p (mark ∷ in-own) (own ++ q)) at (go (p ++ (mark ∷ in-own)) q (j + 1 + width inner) there)) in
       rw (here, is-mark, first, later)
 
   -- ---- an absent part: zeros say what is all zero, empty and rowless
@@ -203,51 +224,62 @@ module _ (frame source : List ℕ) (rows : List Row) (slots : List ℕ) where
       by true false h = append-nil rows
       by false b h = refl
 
-  pub schema-back : (sch : Schema) (m : ℕ) → Formed m sch → (i at : ℕ) → absentOk rows sch i slots ≡ true
+  pub schema-back : rowsWithin (length source) rows ≡ true → (sch : Schema) (m : ℕ) → Formed m sch → (i at : ℕ)
+      → spansWithin (length source) sch i slots ≡ true → absentOk rows sch i slots ≡ true
       → Stands frame at (written sch i) → Back sch i at
-  unfolding putFields slotsAt entriesAt absentOk kept hasRows saidIn
-  schema-back done m up i at ok here = record { says = λ p q j is-j. refl; rows-are = refl }
-  schema-back (number type n name more) m up i at ok here =
+  unfolding putFields slotsAt entriesAt spansWithin absentOk kept hasRows saidIn
+  schema-back in-rows done m up i at ins ok here = record { says = λ p q j is-j. refl; rows-are = refl }
+  schema-back in-rows (number type n name more) m up i at ins ok here =
       let v = getD slots i 0 in
       let x = putNumber type n v in
-      let later = schema-back more n (up .1) (i + 1) (at + length x) ok (stands-later frame at x (written more (i + 1)) here) in
+      let later = schema-back in-rows more n (up .1) (i + 1) (at + length x) ins ok (stands-later frame at x (written more (i + 1)) here) in
       record {
         says = number-says type n name more i (numberAt type v) (landed more (i + 1) (at + length x)) (number-same type v) (later .says);
         rows-are = later .rows-are;
       }
-  schema-back (bytes n name more) m up i at ok here =
+  schema-back in-rows (bytes n name more) m up i at ins ok here =
+      let in-span = both (leb (getD slots i 0 + getD slots (i + 1) 0) (length source))
+      (spansWithin (length source) more (i + 2) slots) ins in
       let t = textAt source rows slots i in
       let x = putSome n t in
       let y = written more (i + 2) in
-      let found = named frame (at + headSize n t) t (text-stands frame at n t (stands-first frame at x y here)) in
-      let later = schema-back more n (up .1) (i + 2) (at + length x) ok (stands-later frame at x y here) in
+      let found = same-bytes frame source (getD slots i 0) (getD slots (i + 1) 0) (at + headSize n t) (in-span .0)
+      (text-stands frame at n t (stands-first frame at x y here)) in
+      let later = schema-back in-rows more n (up .1) (i + 2) (at + length x) (in-span .1) ok (stands-later frame at x y here) in
       record {
-        says = bytes-says n name more i (startOf (at + headSize n t) (length t)) (length t) (landed more (i + 2) (at + length x)) found (later .says);
+        says = bytes-says n name more i (startOf (at + headSize n t) (length t)) (length t)
+            (landed more (i + 2) (at + length x)) found (later .says);
         rows-are = later .rows-are;
       }
-  schema-back (map n name more) m up i at ok here =
+  schema-back in-rows (map n name more) m up i at ins ok here =
       let x = putRows source n rows in
       let y = written more i in
-      let later = schema-back more n (up .1) i (at + length x) ok (stands-later frame at x y here) in
+      let later = schema-back in-rows more n (up .1) i (at + length x) ins ok (stands-later frame at x y here) in
       let none : kept more rows ≡ [] = rw (up .2) in
       record {
         says = later .says;
         rows-are =
             pairs-append frame (rowsAt source n rows at) (entries more i (at + length x))
-            ∙ ap₂ (λ (a b : List Pair). a ++ b) (rows-said frame source n rows at (stands-first frame at x y here)) (later .rows-are ∙ ap (pairsOf source) none)
+            ∙ ap₂ (λ (a b : List Pair). a ++ b) (rows-said frame source n rows at in-rows (stands-first frame at x y here))
+            (later .rows-are ∙ ap (pairsOf source) none)
             ∙ append-nil (pairsOf source rows);
       }
-  schema-back (message n name inner more) m up i at ok here =
+  schema-back in-rows (message n name inner more) m up i at ins ok here =
+      let in-parts = both (spansWithin (length source) inner (i + 1) slots)
+      (spansWithin (length source) more (i + 1 + width inner) slots) ins in
       let b = eqb (getD slots i 0) 0 in
       let x = putPart source rows slots n inner i in
       let y = written more (i + 1 + width inner) in
       let oks = both (not b || allZero rows inner (i + 1) slots) (absentOk rows more (i + 1 + width inner) slots) ok in
-      let go = schema-back inner 0 (up .2) (i + 1) (at + headSize n (written inner (i + 1))) (no-parts inner (i + 1) (up .4)) in
+      let go = schema-back in-rows inner 0 (up .2) (i + 1) (at + headSize n (written inner (i + 1))) (in-parts .0)
+      (no-parts inner (i + 1) (up .4)) in
       let part = part-back n inner i at go b (oks .0) (stands-first frame at x y here) in
-      let later = schema-back more n (up .1) (i + 1 + width inner) (at + length x) (oks .1) (stands-later frame at x y here) in
+      let later = schema-back in-rows more n (up .1) (i + 1 + width inner) (at + length x) (in-parts .1) (oks .1)
+      (stands-later frame at x y here) in
       record {
         says =
-            message-says n name inner more i (cond b 0 1) (partSlots source rows slots n inner i at) (landed more (i + 1 + width inner) (at + length x)) (part .2)
+            message-says n name inner more i (cond b 0 1) (partSlots source rows slots n inner i at)
+            (landed more (i + 1 + width inner) (at + length x)) (part .2)
             (length-part source rows slots n inner i at) (part .0) (later .says);
         rows-are =
             pairs-append frame (partEntries source rows slots n inner i at) (entries more (i + 1 + width inner) (at + length x))

@@ -11,9 +11,8 @@ use Rattle.field_writer.specs.Writing.{putVarint, putTag, putBytes}
 use Rattle.field_writer.proofs.Encoding.{varint-bounds}
 use Rattle.field_writer.proofs.ReadBack.{varintField-back, bytesField-back}
 use Rattle.decoder.specs.Schema.{Schema}
-use Rattle.decoder.specs.Fields.{State, Result, ok, aNumber, look, setSlot, setNumber, oneField, fieldsIn}
-use Rattle.decoder.specs.DecoderState.{taken}
-use Rattle.decoder.proofs.Steps.{andThen, inside-taken, fieldsIn-same, taken-enough, fieldsIn-one}
+use Rattle.decoder.specs.Fields.{State, Result, ok, aNumber, look, setSlot, setNumber, withField, andThen, inside, oneField, fieldsIn}
+use Rattle.decoder.proofs.Steps.{fieldsIn-same, withField-enough, fieldsIn-one}
 
 -- reads the bytes s at `at` with as many steps as they are
 abbrev pub reads : (frame : List ℕ) → Schema → (slot at : ℕ) → List ℕ → State → Result
@@ -24,7 +23,8 @@ abbrev pub headSize : (n : ℕ) → List ℕ → ℕ
 headSize n x = length (putTag n 2) + length (putVarint (length x))
 
 pub length-bytes : (n : ℕ) (x : List ℕ) → length (putBytes n x) ≡ headSize n x + length x
-length-bytes n x = length-append (putTag n 2 ++ putVarint (length x)) x ∙ ap (λ (z : ℕ). z + length x) (length-append (putTag n 2) (putVarint (length x)))
+length-bytes n x =
+    length-append (putTag n 2 ++ putVarint (length x)) x ∙ ap (λ (z : ℕ). z + length x) (length-append (putTag n 2) (putVarint (length x)))
 
 head-some : (n : ℕ) (x : List ℕ) → 0 < headSize n x
 head-some n x = omega (arith, varint-bounds (n * 8 + 2) .0)
@@ -53,9 +53,9 @@ module _ (frame : List ℕ) (sch : Schema) (i at n : ℕ) (st : State) (some : 0
 
   -- a field of bytes, whichever its target
   pub bytes-step : (x rest : List ℕ) (st′ : State) → length x < 2 ^ 64
-      → taken frame (fieldsIn (length x) frame) (at + headSize n x) x st (look sch i n) ≡ ok st′
+      → withField frame (fieldsIn (length x) frame) (at + headSize n x) x st (look sch i n) ≡ ok st′
       → reads frame sch i at (putBytes n x ++ rest) st ≡ reads frame sch i (at + length (putBytes n x)) rest st′
-  unfolding oneField andThen
+  unfolding oneField inside andThen
   bytes-step x rest st′ h t =
       let s = putBytes n x ++ rest in
       let long = length-append (putBytes n x) rest in
@@ -67,8 +67,10 @@ module _ (frame : List ℕ) (sch : Schema) (i at n : ℕ) (st : State) (some : 0
       ∙ drop-at (putTag n 2 ++ putVarint (length x)) (x ++ rest) (headSize n x) (length-append (putTag n 2) (putVarint (length x))) in
       let k = pred (length s) in
       let there : at + headSize n x + length x ≡ at + length (putBytes n x) = omega arith in
+      let step : oneField frame (fieldsIn k frame) sch i at s st
+      ≡ inside frame (fieldsIn k frame) sch i (at + headSize n x) x rest st (look sch i n) =
+      cc (next, behind, take-append-seam x rest, drop-append-seam x rest) in
       fieldsIn-one (length s) frame sch i at s st (omega arith)
-      ∙ cc (next, behind, take-append-seam x rest, drop-append-seam x rest)
-      ∙ inside-taken frame (fieldsIn k frame) sch i (at + headSize n x) x rest st (look sch i n)
-      ∙ rw (taken-enough k (length x) frame (at + headSize n x) x st (look sch i n) (omega arith) (omega arith), t, there)
+      ∙ step
+      ∙ rw (withField-enough k (length x) frame (at + headSize n x) x st (look sch i n) (omega arith) (omega arith), t, there)
       (fieldsIn-same k (length rest) frame sch i (at + length (putBytes n x)) rest st′ (omega arith) (omega arith))

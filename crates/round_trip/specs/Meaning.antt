@@ -1,7 +1,8 @@
--- What a record says, wherever its bytes stand: two records over different bytes are the same record where their meanings are equal
+-- What a record says, wherever its bytes are: two records over different bytes are the same record where their meanings are equal
 use Prim.Native.Nat.{ℕ, _<_, _^_}
 use mathlib.Core.Bool.{Bool}
 use mathlib.Core.List.{List, [], _∷_}
+use lib.ListN.{length}
 use lib.IntN.{ℤ}
 use lib.Signed.{mag}
 use Rattle.decoder.specs.Rows.{rowsIn, Row}
@@ -9,19 +10,33 @@ use Rattle.decoder.specs.Fields.{partOf}
 use Rattle.message.specs.declared.Kind.{Kind}
 use Rattle.message.specs.declared.Span.{Span}
 use Rattle.message.specs.declared.Record.{Record}
-use Rattle.message.specs.declared.Record.the-variants.{Request, Response, Init, Data, Feedback, Close, Refused}
+use Rattle.message.specs.declared.Record.the-variants.{Request, Response, Init, Data, Feedback, Close}
+use Rattle.message.specs.declared.Answer.{Answer}
+use Rattle.message.specs.declared.Answer.the-variants.{Read, Refused}
 use Rattle.outgoing.specs.Content.{kindOf, recordId, rowCount}
 
--- a number, a present mark, or the bytes of a byte field
+-- "A byte field is a start and length": its length, and the bytes that the two name. The length is beside them, since what they name
+-- ends with the source.
+pub record Bytes : Type 0 where
+  pub size : ℕ
+  pub content : List ℕ
+
+abbrev pub bytesFrom : (source : List ℕ) → (start len : ℕ) → Bytes
+bytesFrom source start len = record { size = len; content = partOf source start len }
+
+-- bytes with their own length
+abbrev pub allOf : List ℕ → Bytes
+allOf l = record { size = length l; content = l }
+
+-- a number, a present mark, or a byte field
 pub data Said : Type 0 where
   unsigned : ℕ → Said
   signed : ℤ → Said
   present : Bool → Said
-  text : List ℕ → Said
+  text : Bytes → Said
 
--- "A byte field is a start and length": the bytes that it names
 abbrev pub textOf : (source : List ℕ) → Span → Said
-textOf source span = text (partOf source (span .start) (span .len))
+textOf source span = text (bytesFrom source (span .start) (span .len))
 
 -- "that kind's own fields and present marks"
 unfoldable pub fieldsOf : (source : List ℕ) → Record → List Said
@@ -44,36 +59,36 @@ fieldsOf source (Data r) = []
 fieldsOf source (Feedback r) = unsigned (r .«window_size_increment») ∷ []
 fieldsOf source (Close r) =
     signed (r .«close_type») ∷ signed (r .ret) ∷ textOf source (r .msg) ∷ unsigned (r .«message_type») ∷ signed (r .«func_ret») ∷ []
-fieldsOf source (Refused code) = []
 
--- a row of the map, as bytes
+-- a row of the map
 pub record Pair : Type 0 where
-  pub key : List ℕ
-  pub value : List ℕ
+  pub key : Bytes
+  pub value : Bytes
 
 abbrev pub pairsOf : (source : List ℕ) → List Row → List Pair
 pairsOf source [] = []
 pairsOf source (row ∷ rows) =
-    record { key = partOf source (row .key) (row .keySize); value = partOf source (row .value) (row .valueSize) } ∷ pairsOf source rows
+    record {
+      key = bytesFrom source (row .key) (row .keySize);
+      value = bytesFrom source (row .value)
+          (row .valueSize);
+    } ∷ pairsOf source rows
 
 -- "Beside its kind, a record is the id of bytes 11-14, that kind's own fields and present marks, and the row count; no more."
 pub data Meaning : Type 0 where
   says : Kind → (id : ℕ) → (fields : List Said) → (rows : List Pair) → Meaning
   refused : (code : ℕ) → Meaning
 
-abbrev pub saying : Record → (source numbers : List ℕ) → Meaning
-saying r source numbers = says (kindOf r) (recordId r) (fieldsOf source r) (pairsOf source (rowsIn (rowCount r) numbers))
+abbrev pub meaning : Record → (source numbers : List ℕ) → Meaning
+meaning r source numbers = says (kindOf r) (recordId r) (fieldsOf source r) (pairsOf source (rowsIn (rowCount r) numbers))
 
-unfoldable pub meaning : Record → (source numbers : List ℕ) → Meaning
-meaning (Request r) source numbers = saying (Request r) source numbers
-meaning (Response r) source numbers = saying (Response r) source numbers
-meaning (Init r) source numbers = saying (Init r) source numbers
-meaning (Data r) source numbers = saying (Data r) source numbers
-meaning (Feedback r) source numbers = saying (Feedback r) source numbers
-meaning (Close r) source numbers = saying (Close r) source numbers
-meaning (Refused code) source numbers = refused code
+-- what the reader answered says
+unfoldable pub answerMeaning : Answer → (source numbers : List ℕ) → Meaning
+answerMeaning (Read r) source numbers = meaning r source numbers
+answerMeaning (Refused code) source numbers = refused code
 
--- the numbers of a record that a program can hold: "Types are as in 000", 32 bits each
+-- the numbers of a record that a program can hold: "Types are as in 000", 32 bits each. Every record that a program passes is in it
+-- (`held-in-range`, proofs/Held).
 abbrev pub InRange : List Said → Type 0
 InRange [] = Unit {0}
 InRange (unsigned n ∷ said) = (n < 2 ^ 32) × InRange said

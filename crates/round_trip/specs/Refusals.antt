@@ -1,9 +1,9 @@
--- The grounds on which the writer refuses, as propositions in the words of document 01's table, and what "exactly" is to mean of them
+-- The grounds on which the writer refuses, as propositions in the words of document 01's table
 use Prim.Native.Nat.{ℕ, _+_, _*_, _<_}
 use mathlib.Core.Path.{_≡_}
 use mathlib.Core.Logic.{_⊎_}
 use mathlib.Core.Bool.{Bool, true, false}
-use mathlib.Core.List.{List, [], _∷_, _++_}
+use mathlib.Core.List.{List, [], _∷_}
 use lib.ListN.{length}
 use Rattle.frame.specs.Header.{maxFrame}
 use Rattle.decoder.specs.Rows.{Row}
@@ -18,48 +18,25 @@ use Rattle.message.specs.declared.Record.the-variants as records
 use Rattle.outgoing.specs.Content.{kindOf, rowCount, bits, slotsOf}
 use Rattle.validation.specs.Grounds.{maxRows, hasMap}
 use Rattle.writer.specs.Writing.{rowsOf, messageOf, frameOf, maxHeader, Writing, refusedWith, wrote}
+use Rattle.writer.specs.declared.Encoded.{Encoded}
 use Rattle.writer.specs.declared.Encoded.the-variants.{Frame, Refused}
-
--- ---- grounds in an order
-
--- a refusal number and when it is given
-pub record Ground : Type 1 where
-  pub code : ℕ
-  pub holds : Type 0
-
-abbrev pub ground : ℕ → Type 0 → Ground
-ground code holds = record { code = code; holds = holds }
-
--- "its ground holds and none before it in the order does"
-abbrev pub First : List Ground → (code : ℕ) → Type 0
-First [] code = ⊥
-First (g ∷ gs) code = (g .holds × (code ≡ g .code)) ⊎ ((g .holds → ⊥) × First gs code)
-
--- "with no ground"
-abbrev pub None : List Ground → Type 0
-None [] = Unit {0}
-None (g ∷ gs) = (g .holds → ⊥) × None gs
+use Rattle.refusals.specs.Grounds.{Ground, ground, Some, Verdict, refuses, works, Entry}
 
 -- ---- 17
-
-abbrev pub Some : {A : Type 0} → (A → Type 0) → List A → Type 0
-Some P [] = ⊥
-Some P (x ∷ xs) = P x ⊎ Some P xs
 
 -- "a start plus length past the end of the source bytes, empty fields too"
 abbrev pub Past : (source : List ℕ) (start len : ℕ) → Type 0
 Past source start len = length source < start + len
 
 -- the byte fields of a record
-abbrev pub spansOf : Record → List Span
-spansOf (records.Request r) = r .caller ∷ r .callee ∷ r .func ∷ []
-spansOf (records.Response r) = r .«error_msg» ∷ []
-spansOf (records.Init r) =
+abbrev pub recordSpans : Record → List Span
+recordSpans (records.Request r) = r .caller ∷ r .callee ∷ r .func ∷ []
+recordSpans (records.Response r) = r .«error_msg» ∷ []
+recordSpans (records.Init r) =
     r .«request_meta» .caller ∷ r .«request_meta» .callee ∷ r .«request_meta» .func ∷ r .«response_meta» .«error_msg» ∷ []
-spansOf (records.Data r) = []
-spansOf (records.Feedback r) = []
-spansOf (records.Close r) = r .msg ∷ []
-spansOf (records.Refused code) = []
+recordSpans (records.Data r) = []
+recordSpans (records.Feedback r) = []
+recordSpans (records.Close r) = r .msg ∷ []
 
 abbrev pub SpanPast : (source : List ℕ) → Span → Type 0
 SpanPast source span = Past source (span .start) (span .len)
@@ -103,7 +80,6 @@ PartNotZero (records.Init r) =
 PartNotZero (records.Data r) = ⊥
 PartNotZero (records.Feedback r) = ⊥
 PartNotZero (records.Close r) = ⊥
-PartNotZero (records.Refused code) = ⊥
 
 -- ---- 15: "a body with Init, Feedback or Close"
 unfoldable pub hasBody : Kind → Bool
@@ -116,24 +92,14 @@ hasBody kinds.Close = false
 
 -- ---- the writer's grounds
 
--- A record that its reader refused is none: its number is given again.
-abbrev pub refusedBefore : Record → List Ground
-refusedBefore (records.Request r) = []
-refusedBefore (records.Response r) = []
-refusedBefore (records.Init r) = []
-refusedBefore (records.Data r) = []
-refusedBefore (records.Feedback r) = []
-refusedBefore (records.Close r) = []
-refusedBefore (records.Refused code) = ground code (Unit {0}) ∷ []
-
 -- "Writer 18's first three grounds, 17, 18's others, 15, 19, 20, 27."
-abbrev pub groundsOf : Record → (source numbers body : List ℕ) → (room : ℕ) → List Ground
-groundsOf r source numbers body room =
+abbrev pub grounds : Record → (source numbers body : List ℕ) → (room : ℕ) → List Ground
+grounds r source numbers body room =
     -- "over 64 rows, rows with Feedback or Data, row slice too short for them"
     ground 18 (maxRows < rowCount r)
     ∷ ground 18 ((hasMap (kindOf r) ≡ false) × (0 < rowCount r))
     ∷ ground 18 (length numbers < rowCount r * 4)
-    ∷ ground 17 (Some (SpanPast source) (spansOf r))
+    ∷ ground 17 (Some (SpanPast source) (recordSpans r))
     ∷ ground 17 (Some (RowPast source) (rowsOf r numbers))
     ∷ ground 18 (ComesAgain (keysOf source (rowsOf r numbers)))
     ∷ ground 18 (PartNotZero r)
@@ -146,13 +112,17 @@ groundsOf r source numbers body room =
     ∷ ground 27 (room < length (frameOf r source numbers body))
     ∷ []
 
-abbrev pub grounds : Record → (source numbers body : List ℕ) → (room : ℕ) → List Ground
-grounds r source numbers body room = refusedBefore r ++ groundsOf r source numbers body room
+-- ---- `write`: "A refused record or job is all zero; a refused write counts 0 bytes", "leave rows, output and list untouched"; "Bytes past
+-- the frame stay as they were."
+abbrev pub encodedSays : Encoded → Verdict
+encodedSays (Frame size) = works
+encodedSays (Refused code) = refuses code
 
--- "A number is given exactly when its ground holds and none before it in the order does, ..; with no ground the entry does its work."
--- The writer answered w. A refusal leaves the output untouched, and work writes the frame alone.
-pub record Exactly (gs : List Ground) (frame output : List ℕ) (w : Writing) : Type 0 where
-  pub given : (code : ℕ) → First gs code → w ≡ refusedWith code output
-  pub grounded : (code : ℕ) → w .answer ≡ Refused code → First gs code
-  pub works : None gs → w ≡ wrote frame output
-  pub worked : (size : ℕ) → w .answer ≡ Frame size → None gs
+abbrev pub writeEntry : Record → (source numbers body output : List ℕ) → Entry Writing
+writeEntry r source numbers body output =
+    record {
+      grounds = grounds r source numbers body (length output);
+      says = λ w. encodedSays (w .answer);
+      refusal = λ n. refusedWith n output;
+      work = wrote (frameOf r source numbers body) output;
+    }

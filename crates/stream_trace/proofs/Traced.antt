@@ -21,7 +21,7 @@ use Rattle.frame.specs.declared.Progress.the-variants.{Frame, NeedMore, Refused
 use Rattle.frame.specs.declared.End.{End}
 use Rattle.message.specs.Frames.{Reading, readFrame}
 use Rattle.message.specs.declared.Kind.{Kind}
-use Rattle.message.specs.declared.Record.{Record}
+use Rattle.message.specs.declared.Answer.{Answer}
 use Rattle.reader.specs.Stream.{Naming, readEach, ReadFaithfully}
 use Rattle.reader.proofs.FaithfulReading.{read-faithfully}
 use Rattle.stream_trace.specs.Trace.{Deframes, Reads, Trace, NextFrame, EachFrame, ofEach, ReadAsNamed, TracedFaithfully}
@@ -34,7 +34,7 @@ all-deframed state buffer piece o d =
 pub all-read : (kind : Kind) (frame lent : List ℕ) (x : Reading) → Reads kind frame lent x → x ≡ readFrame kind frame lent
 all-read kind frame lent x e =
     let y = readFrame kind frame lent in
-    ap (λ (z : Record). record { answer = z; header = x .header; body = x .body; attachment = x .attachment; rows = x .rows }) (e .0)
+    ap (λ (z : Answer). record { answer = z; header = x .header; body = x .body; attachment = x .attachment; rows = x .rows }) (e .0)
     ∙ ap (λ (z : List ℕ). record { answer = y .answer; header = z; body = x .body; attachment = x .attachment; rows = x .rows }) (e .1)
     ∙ ap (λ (z : List ℕ). record { answer = y .answer; header = y .header; body = z; attachment = x .attachment; rows = x .rows }) (e .2)
     ∙ ap (λ (z : List ℕ). record { answer = y .answer; header = y .header; body = y .body; attachment = z; rows = x .rows }) (e .3)

@@ -1,5 +1,5 @@
--- The grounds as loops find them. Of a loop that tests one thing after the other: the answer for what is left is that for all (`left`), and a test that
--- fails is the answer.
+-- The grounds as loops find them. Of a loop that tests one thing after the other: the answer for what is left is that for all (`left`), and
+-- a test that fails is the answer.
 use Prim.Native.Nat.{ℕ, zero, suc, _+_, _*_, _<_, _≤_}
 use mathlib.Core.Path.{_≡_, refl, sym, ap, _∙_}
 use mathlib.Core.Bool.{Bool, true, false, not, cond, _&&_, _||_}
@@ -11,17 +11,15 @@ use lib.Dec.{leb, eqb}
 use lib.ListN.{length, drop, getD, drop-of-length-le}
 use Rattle.frame.proofs.Codes.{both}
 use Rattle.frame.proofs.Tests.{fails, holds}
-use Rattle.decoder.specs.Schema.{done, request, response, init, feedback, close, requestMeta, responseMeta, width}
+use Rattle.decoder.specs.Schema.{done, request, response, init, feedback, close, requestMeta, responseMeta, width, schemaAt, partSchema, slotAt}
 use Rattle.decoder.specs.Rows.{Row, rowsIn}
 use Rattle.decoder.specs.Fields.{partOf, sameBytes}
-use Rattle.decoder.specs.Decoding.{schemaAt}
-use Rattle.decoder.specs.DecoderState.{partSchema, slotAt}
 use Rattle.message.specs.Records.{schemaOf}
 use Rattle.message.specs.declared.Kind.{Kind}
 use Rattle.message.specs.declared.Kind.the-variants as kinds
 use Rattle.decoder.proofs.RowLaws.{length-rowsIn, rowAt}
 use Rattle.validation.specs.Grounds.{maxRows, hasMap, rowsOk, spansWithin, rowsWithin, noKey, keysDiffer, allZero, absentOk}
-use Rattle.outgoing.specs.Items.{items, ended, Placed, itemsOf, itemWithin, itemsWithin, itemZero, itemsZero}
+use Rattle.outgoing.specs.Items.{items, noItem, Placed, itemsOf, itemWithin, itemsWithin, itemZero, itemsZero}
 use Rattle.outgoing.specs.declared.Item.{Item}
 
 -- ---- one test `t` of what is left, and `later` behind it
@@ -40,7 +38,8 @@ few-items n = by (eqb n 6) (eqb n 7) (eqb n 0) (eqb n 1) (eqb n 2) (eqb n 4) (eq
   where
     by : (six seven zero one two four five : Bool)
         → length (items
-        (cond six requestMeta (cond seven responseMeta (cond zero request (cond one response (cond two init (cond four feedback (cond five close done)))))))
+        (cond six requestMeta
+        (cond seven responseMeta (cond zero request (cond one response (cond two init (cond four feedback (cond five close done)))))))
         (cond six 1 (cond seven 9 0)))
         ≤ 12
     by true b c d e f g = omega arith
@@ -54,7 +53,7 @@ few-items n = by (eqb n 6) (eqb n 7) (eqb n 0) (eqb n 1) (eqb n 2) (eqb n 4) (eq
 
 -- a test of each field, which holds where there is no more
 pub record Each (test : Item → Bool) (all : List Item → Bool) : Type 0 where
-  pub at-end : test ended ≡ true
+  pub at-end : test noItem ≡ true
   pub none : all [] ≡ true
   pub some : (x : Item) (xs : List Item) → all (x ∷ xs) ≡ test x && all xs
 
@@ -67,7 +66,7 @@ unfolding itemZero itemsZero
 each-zero rows slots = record { at-end = refl; none = refl; some = λ x xs. refl }
 
 module _ {test : Item → Bool} {all : List Item → Bool} (each : Each test all) where
-  item-at : (xs : List Item) (k : ℕ) → all (drop k xs) ≡ test (getD xs k ended) && all (drop (suc k) xs)
+  item-at : (xs : List Item) (k : ℕ) → all (drop k xs) ≡ test (getD xs k noItem) && all (drop (suc k) xs)
   item-at [] zero = rw (each .at-end)
   item-at [] (suc k) = rw (each .at-end)
   item-at (x ∷ xs) zero = each .some x xs
@@ -79,7 +78,7 @@ module _ {test : Item → Bool} {all : List Item → Bool} (each : Each test all
         let over : length (itemsOf schema) ≤ k = omega (arith, few-items schema) in
         sym (left ∙ ap all (drop-of-length-le (itemsOf schema) over) ∙ each .none)
 
-    module _ {x : Item} {r : Bool} (is-x : (x ≡ getD (itemsOf schema) k ended) × Placed x) (is-r : r ≡ test x) where
+    module _ {x : Item} {r : Bool} (is-x : (x ≡ getD (itemsOf schema) k noItem) × Placed x) (is-r : r ≡ test x) where
       pub fields-stop : not r ≡ true → false ≡ all (itemsOf schema)
       fields-stop e = stops _ _ left (item-at (itemsOf schema) k) (fails (is-r ∙ ap test (is-x .0)) e)
 
@@ -91,7 +90,8 @@ rows-drop : (size : ℕ) (rs : List Row) (i : ℕ) → rowsWithin size rs ≡ tr
 unfolding rowsWithin
 rows-drop size rs zero e = e
 rows-drop size [] (suc i) e = refl
-rows-drop size (r ∷ rs) (suc i) e = rows-drop size rs i (both (leb (r .key + r .keySize) size && leb (r .value + r .valueSize) size) (rowsWithin size rs) e .1)
+rows-drop size (r ∷ rs) (suc i) e =
+    rows-drop size rs i (both (leb (r .key + r .keySize) size && leb (r .value + r .valueSize) size) (rowsWithin size rs) e .1)
 
 module _ (n : ℕ) (l : List ℕ) (i : ℕ) where
   -- nothing is left
@@ -113,7 +113,8 @@ module _ (n : ℕ) (l : List ℕ) (i : ℕ) where
     no-key-at source key = rw (rowAt n l i some, add-one i)
 
     pub differ-at : (source : List ℕ) → keysDiffer source (drop i (rowsIn n l))
-        ≡ noKey source (partOf source (getD l (i * 4) 0) (getD l (i * 4 + 1) 0)) (drop (i + 1) (rowsIn n l)) && keysDiffer source (drop (i + 1) (rowsIn n l))
+        ≡ noKey source (partOf source (getD l (i * 4) 0) (getD l (i * 4 + 1) 0)) (drop (i + 1) (rowsIn n l)) && keysDiffer source
+        (drop (i + 1) (rowsIn n l))
     unfolding keysDiffer
     differ-at source = rw (rowAt n l i some, add-one i)
 
@@ -123,7 +124,8 @@ module _ (n : ℕ) (l : List ℕ) (i : ℕ) where
     row-in size e =
         let key = leb (getD l (i * 4) 0 + getD l (i * 4 + 1) 0) size in
         let value = leb (getD l (i * 4 + 2) 0 + getD l (i * 4 + 3) 0) size in
-        let a = both (key && value) (rowsWithin size (drop (i + 1) (rowsIn n l))) (sym (within-at size) ∙ rows-drop size (rowsIn n l) i e) in
+        let a = both (key && value) (rowsWithin size (drop (i + 1) (rowsIn n l)))
+        (sym (within-at size) ∙ rows-drop size (rowsIn n l) i e) in
         let b = both key value (a .0) in
         (leb-true _ _ (b .0), leb-true _ _ (b .1))
 
@@ -133,7 +135,8 @@ rows-lent kind count lent e = leb-true _ _ (both (leb count maxRows && (hasMap k
 
 -- ---- Init: its two parts, and then its own fields
 pub within-init : (size : ℕ) (slots : List ℕ)
-    → spansWithin size init 0 slots ≡ itemsWithin size slots (itemsOf 6) && (itemsWithin size slots (itemsOf 7) && itemsWithin size slots (itemsOf 2))
+    → spansWithin size init 0 slots
+    ≡ itemsWithin size slots (itemsOf 6) && (itemsWithin size slots (itemsOf 7) && itemsWithin size slots (itemsOf 2))
 unfolding spansWithin itemsWithin itemWithin items partSchema schemaAt slotAt width
 within-init size slots = refl
 

@@ -1,14 +1,15 @@
 // The grounds on which a record is refused before its size is known, in document 01's order.
+use decoder::CLOSE;
+use decoder::FEEDBACK;
+use decoder::INIT;
+use decoder::REQUEST;
+use decoder::REQUEST_META;
+use decoder::RESPONSE;
+use decoder::RESPONSE_META;
+use decoder::same_key;
 use message::Kind;
-use outgoing::CLOSE;
-use outgoing::FEEDBACK;
-use outgoing::INIT;
 use outgoing::Item;
 use outgoing::MAX_FIELDS;
-use outgoing::REQUEST;
-use outgoing::REQUEST_META;
-use outgoing::RESPONSE;
-use outgoing::RESPONSE_META;
 use outgoing::item_at;
 ghost use mathlib.Core.Path.{_≡_};
 ghost use mathlib.Core.Bool.{true, not, _&&_, _||_};
@@ -16,10 +17,9 @@ ghost use mathlib.Core.List.{[]};
 ghost use Prim.Native.Nat.{_+_, _*_, _<_, _≤_};
 ghost use lib.Dec.{leb, eqb};
 ghost use lib.ListN.{length, drop, getD};
-ghost use Rattle.decoder.specs.Schema.{init};
-ghost use Rattle.decoder.specs.Fields.{partOf, sameBytes};
+ghost use Rattle.decoder.specs.Schema.{init, partSchema, slotAt};
 ghost use Rattle.decoder.specs.Rows.{rowsIn};
-ghost use Rattle.decoder.specs.DecoderState.{partSchema, slotAt};
+ghost use Rattle.decoder.specs.Fields.{partOf, sameBytes};
 ghost use Rattle.message.specs.Records.{schemaOf};
 ghost use Rattle.validation.specs.Grounds.{hasMap, rowsOk, spansWithin, rowsWithin, noKey, keysDiffer, absentOk, bodyOk};
 ghost use Rattle.outgoing.specs.Items.{items, Placed, itemWithin, itemsWithin, itemZero, itemsZero};
@@ -127,7 +127,8 @@ pub(crate) fn spans_within(kind: Kind, values: [u32; 16], size: usize) -> bool
 // The key and the value of row i.
 fn row_within(rows: &[u32], i: usize, size: usize) -> bool
     requires { ⌜ i * 4 + 4 ≤ length (now rows) ⌝ }
-    ensures { λ r. ⌜ r ≡ (leb (getD (now (rows .entry)) (i * 4) 0 + getD (now (rows .entry)) (i * 4 + 1) 0) size && leb (getD (now (rows .entry)) (i * 4 + 2) 0 + getD (now (rows .entry)) (i * 4 + 3) 0) size) ⌝ }
+    ensures { λ r. ⌜ r ≡ (leb (getD (now (rows .entry)) (i * 4) 0 + getD (now (rows .entry)) (i * 4 + 1) 0) size
+        && leb (getD (now (rows .entry)) (i * 4 + 2) 0 + getD (now (rows .entry)) (i * 4 + 3) 0) size) ⌝ }
 {
     let at = i * 4;
     if !span_within(rows[at], rows[at + 1], size) {
@@ -152,20 +153,12 @@ pub(crate) fn rows_within(rows: &[u32], count: usize, size: usize) -> bool
 
 // ---- 18: equal keys
 
-// Whether the source bytes that two starts and lengths name are the same.
-fn same_key(source: &[u8], a: usize, a_size: usize, b: usize, b_size: usize) -> bool
-    requires { ⌜ (a + «a_size» ≤ length (now source)) × (b + «b_size» ≤ length (now source)) ⌝ }
-    ensures { λ r. ⌜ r ≡ sameBytes (partOf (now (source .entry)) a «a_size») (partOf (now (source .entry)) b «b_size») ⌝ }
-{
-    let a_end = a + a_size;
-    let b_end = b + b_size;
-    check::same(&source[a..a_end], &source[b..b_end])
-}
-
-// No row behind row i has its key.
+// No row after row i has its key.
 fn no_key(source: &[u8], rows: &[u32], count: usize, i: usize) -> bool
     requires { ⌜ (i < count) × (count * 4 ≤ length (now rows)) × (rowsWithin (length (now source)) (rowsIn count (now rows)) ≡ true) ⌝ }
-    ensures { λ r. ⌜ r ≡ noKey (now (source .entry)) (partOf (now (source .entry)) (getD (now (rows .entry)) (i * 4) 0) (getD (now (rows .entry)) (i * 4 + 1) 0)) (drop (i + 1) (rowsIn count (now (rows .entry)))) ⌝ }
+    ensures { λ r. ⌜ r ≡ noKey (now (source .entry))
+        (partOf (now (source .entry)) (getD (now (rows .entry)) (i * 4) 0) (getD (now (rows .entry)) (i * 4 + 1) 0))
+        (drop (i + 1) (rowsIn count (now (rows .entry)))) ⌝ }
 {
     let key = rows[i * 4] as usize;
     let key_size = rows[i * 4 + 1] as usize;

@@ -14,3 +14,5 @@ mod Groups
 mod FixedLaws
 mod LittleEndian
 mod SignedLaws
+-- Demand 1, of every public entry
+pub mod AsksNothing

@@ -19,7 +19,7 @@ ghost use mathlib.Core.Path.{_≡_};
 ghost use Rattle.wire.specs.Part.{part};
 ghost use Rattle.wire.specs.Varint.{got, varint, lowU32, lowI32};
 ghost use Rattle.wire.specs.Tags.{split, tag, lengthPrefix};
-ghost use Rattle.wire.specs.Skipping.{skipValue, skipGroup};
+ghost use Rattle.wire.specs.Skipping.{skipValue, skipGroup, skipField};
 ghost use Rattle.wire.specs.Fields.{nextField};
 ghost use Rattle.wire.specs.Placed.{varintAt, tagAt, lengthAt, skipAt, fieldAt};
 
@@ -145,11 +145,23 @@ pub fn read_length(s: &[u8], at: usize, end: usize) -> Length
     }
 }
 
+// "nested to 32"
+const MAX_DEPTH: u32 = 32;
+
 // Skips the value at the start of the part, which stands behind a tag of this field number and wire
-// type. `depth` more groups may be opened: 32 for a field of a message. A wire type that has no value
-// is a bad tag: 4, a stray group end, and all from 6. The calls nest once for each open group, so a
-// caller that passes more than 32 answers for the stack.
-pub fn skip_value(s: &[u8], at: usize, end: usize, number: u32, wire_type: u32, depth: u32) -> Skip
+// type. `depth` more groups may be opened, and at most 32. A wire type that has no value is a bad tag:
+// 4, a stray group end, and all from 6.
+pub fn skip_field(s: &[u8], at: usize, end: usize, number: u32, wire_type: u32, depth: u32) -> Skip
+    ensures { λ r. ⌜ r ≡ skipAt at (skipField number «wire_type» depth (part (now (s .entry)) at end)) ⌝ }
+{
+    if depth < MAX_DEPTH {
+        return skip_value(s, at, end, number, wire_type, depth);
+    }
+    skip_value(s, at, end, number, wire_type, MAX_DEPTH)
+}
+
+// The same with any depth. The calls nest once for each open group: every caller passes at most 32.
+fn skip_value(s: &[u8], at: usize, end: usize, number: u32, wire_type: u32, depth: u32) -> Skip
     ensures { λ r. ⌜ r ≡ skipAt at (skipValue number «wire_type» depth (part (now (s .entry)) at end)) ⌝ }
 {
     if wire_type == 0 {
@@ -174,7 +186,7 @@ pub fn skip_value(s: &[u8], at: usize, end: usize, number: u32, wire_type: u32, 
 }
 
 // Skips what is left of an opened group of this field number, its end included.
-pub fn skip_group(s: &[u8], at: usize, end: usize, number: u32, depth: u32) -> Skip
+fn skip_group(s: &[u8], at: usize, end: usize, number: u32, depth: u32) -> Skip
     ensures { λ r. ⌜ r ≡ skipAt at (skipGroup number depth (part (now (s .entry)) at end)) ⌝ }
 {
     let mut i = at;

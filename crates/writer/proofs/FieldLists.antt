@@ -11,7 +11,7 @@ use Rattle.decoder.specs.Rows.{Row, rowsIn}
 use Rattle.decoder.proofs.RowLaws.{length-rowsIn, rowAt}
 use Rattle.frame.proofs.Codes.{both}
 use Rattle.writer.specs.Encoding.{putEntry, putRows}
-use Rattle.outgoing.specs.Items.{ended, itemsOf, itemWithin, itemsWithin}
+use Rattle.outgoing.specs.Items.{noItem, itemsOf, itemWithin, itemsWithin}
 use Rattle.writer.specs.Items.{Puts, putItem, putItems, bytesSize, entrySize, rowsSize, itemSize, itemsSize, rowAt as rowIn}
 use Rattle.outgoing.specs.declared.Item.{Item}
 use Rattle.validation.proofs.GroundLaws.{few-items}
@@ -22,7 +22,7 @@ no-more : (schema k : ℕ) → 12 ≤ k → drop k (itemsOf schema) ≡ []
 no-more schema k h = drop-of-length-le (itemsOf schema) {i = k} (omega (arith, few-items schema))
 
 pub item-within : (size : ℕ) (slots : List ℕ) (xs : List Item) (k : ℕ) → itemsWithin size slots xs ≡ true
-    → itemWithin size slots (getD xs k ended) ≡ true
+    → itemWithin size slots (getD xs k noItem) ≡ true
 unfolding itemsWithin itemWithin
 item-within size slots [] zero e = refl
 item-within size slots [] (suc k) e = refl
@@ -30,7 +30,7 @@ item-within size slots (x ∷ xs) zero e = both (itemWithin size slots x) (items
 item-within size slots (x ∷ xs) (suc k) e = item-within size slots xs k (both (itemWithin size slots x) (itemsWithin size slots xs) e .1)
 
 module _ (rows : List Row) (slots : List ℕ) where
-  size-at : (xs : List Item) (k : ℕ) → itemsSize rows slots (drop k xs) ≡ itemSize rows slots (getD xs k ended) + itemsSize rows slots (drop (suc k) xs)
+  size-at : (xs : List Item) (k : ℕ) → itemsSize rows slots (drop k xs) ≡ itemSize rows slots (getD xs k noItem) + itemsSize rows slots (drop (suc k) xs)
   unfolding itemsSize itemSize
   size-at [] zero = refl
   size-at [] (suc k) = refl
@@ -38,10 +38,10 @@ module _ (rows : List Row) (slots : List ℕ) where
   size-at (x ∷ xs) (suc k) = size-at xs k
 
   module _ (schema k size : ℕ) (left : size + itemsSize rows slots (drop k (itemsOf schema)) ≡ itemsSize rows slots (itemsOf schema)) where
-    pub size-more : (x : Item) → x ≡ getD (itemsOf schema) k ended → (r : ℕ) → r ≡ itemSize rows slots x
+    pub size-more : (x : Item) → x ≡ getD (itemsOf schema) k noItem → (r : ℕ) → r ≡ itemSize rows slots x
         → size + r + itemsSize rows slots (drop (k + 1) (itemsOf schema)) ≡ itemsSize rows slots (itemsOf schema)
     size-more x e r f =
-        let g : r ≡ itemSize rows slots (getD (itemsOf schema) k ended) = f ∙ ap (itemSize rows slots) e in
+        let g : r ≡ itemSize rows slots (getD (itemsOf schema) k noItem) = f ∙ ap (itemSize rows slots) e in
         rw (add-one k) (omega (arith, size-at (itemsOf schema) k, left, g))
 
     pub size-all : 12 ≤ k → size ≡ itemsSize rows slots (itemsOf schema)
@@ -50,7 +50,7 @@ module _ (rows : List Row) (slots : List ℕ) where
 
 module _ (source : List ℕ) (rows : List Row) (slots : List ℕ) where
   put-at : (xs : List Item) (k : ℕ)
-      → putItems source rows slots (drop k xs) ≡ putItem source rows slots (getD xs k ended) ++ putItems source rows slots (drop (suc k) xs)
+      → putItems source rows slots (drop k xs) ≡ putItem source rows slots (getD xs k noItem) ++ putItems source rows slots (drop (suc k) xs)
   unfolding putItems putItem
   put-at [] zero = refl
   put-at [] (suc k) = refl
@@ -59,17 +59,18 @@ module _ (source : List ℕ) (rows : List Row) (slots : List ℕ) where
 
   module _ (schema k : ℕ) {all out₀ : List ℕ} {at₀ : ℕ} {out : List ℕ} {at : ℕ}
       (left : Left (putItems source rows slots (drop k (itemsOf schema))) all out₀ at₀ out at) where
-    next-item : (x : Item) → x ≡ getD (itemsOf schema) k ended
+    next-item : (x : Item) → x ≡ getD (itemsOf schema) k noItem
         → Left (putItem source rows slots x ++ putItems source rows slots (drop (suc k) (itemsOf schema))) all out₀ at₀ out at
     next-item x e =
         subst (λ (l : List ℕ). Left l all out₀ at₀ out at)
-        (put-at (itemsOf schema) k ∙ ap (λ (y : Item). putItem source rows slots y ++ putItems source rows slots (drop (suc k) (itemsOf schema))) (sym e))
+        (put-at (itemsOf schema) k
+        ∙ ap (λ (y : Item). putItem source rows slots y ++ putItems source rows slots (drop (suc k) (itemsOf schema))) (sym e))
         left
 
-    pub item-fits : (x : Item) → x ≡ getD (itemsOf schema) k ended → at + length (putItem source rows slots x) ≤ length out
+    pub item-fits : (x : Item) → x ≡ getD (itemsOf schema) k noItem → at + length (putItem source rows slots x) ≤ length out
     item-fits x e = first-fits (putItem source rows slots x) _ (next-item x e)
 
-    pub put-more : (x : Item) → x ≡ getD (itemsOf schema) k ended → {next : ℕ} {after : List ℕ} → Puts (putItem source rows slots x) out at next after
+    pub put-more : (x : Item) → x ≡ getD (itemsOf schema) k noItem → {next : ℕ} {after : List ℕ} → Puts (putItem source rows slots x) out at next after
         → Left (putItems source rows slots (drop (k + 1) (itemsOf schema))) all out₀ at₀ after next
     put-more x e p = rw (add-one k) (steps (putItem source rows slots x) _ (next-item x e) p)
 
@@ -88,7 +89,8 @@ module _ (n : ℕ) (l : List ℕ) (i : ℕ) (number : ℕ) where
         → size + r + rowsSize number (drop (i + 1) (rowsIn n l)) ≡ rowsSize number (rowsIn n l)
     unfolding rowsSize
     rows-more h row is-row e r is-e is-r =
-        let here : rowsSize number (drop i (rowsIn n l)) ≡ bytesSize number (entrySize (rowIn l i)) + rowsSize number (drop (suc i) (rowsIn n l)) =
+        let here : rowsSize number (drop i (rowsIn n l))
+        ≡ bytesSize number (entrySize (rowIn l i)) + rowsSize number (drop (suc i) (rowsIn n l)) =
         ap (rowsSize number) (rowAt n l i h) in
         let g : r ≡ bytesSize number (entrySize (rowIn l i)) = is-r ∙ ap (bytesSize number) (is-e ∙ ap (λ (x : Row). entrySize x) is-row) in
         rw (add-one i) (omega (arith, here, left, g))
@@ -113,7 +115,8 @@ module _ (n : ℕ) (l : List ℕ) (i : ℕ) (number : ℕ) where
     pub row-fits : i < n → (row : Row) → row ≡ rowIn l i → at + length (putBytes number (putEntry source row)) ≤ length out
     row-fits h row e = first-fits (putBytes number (putEntry source row)) _ (next-row h row e)
 
-    pub put-row : i < n → (row : Row) → row ≡ rowIn l i → {next : ℕ} {after : List ℕ} → Puts (putBytes number (putEntry source row)) out at next after
+    pub put-row : i < n → (row : Row) → row ≡ rowIn l i → {next : ℕ} {after : List ℕ}
+        → Puts (putBytes number (putEntry source row)) out at next after
         → Left (putRows source number (drop (i + 1) (rowsIn n l))) all out₀ at₀ after next
     put-row h row e p = rw (add-one i) (steps (putBytes number (putEntry source row)) _ (next-row h row e) p)
 

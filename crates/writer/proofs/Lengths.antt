@@ -14,7 +14,8 @@ use Rattle.frame.proofs.Codes.{both}
 use Rattle.writer.specs.Encoding.{putSome, putEntry, putRows}
 use Rattle.validation.specs.Grounds.{rowsWithin}
 use Rattle.outgoing.specs.Items.{itemsOf, itemWithin, itemsWithin}
-use Rattle.writer.specs.Items.{RowIn, putItem, putItems, putPart, putInit, putMessage, bytesSize, entrySize, rowsSize, itemSize, itemsSize, sizeIf, initSizes, sizesOf, initWithin, messageWithin}
+use Rattle.writer.specs.Items.{RowIn, putItem, putItems, putPart, putInit, putMessage, bytesSize, entrySize, rowsSize, itemSize}
+use Rattle.writer.specs.Items.{itemsSize, sizeIf, initSizes, sizesOf, initWithin, messageWithin}
 use Rattle.outgoing.specs.declared.Item.{Item}
 use Rattle.outgoing.specs.declared.Item.the-variants as item
 
@@ -38,14 +39,16 @@ entry-length source row h =
     )
 
 -- the first row and the others
-pub row-and : (size : ℕ) (row : Row) (rows : List Row) → rowsWithin size (row ∷ rows) ≡ true → RowIn size row × (rowsWithin size rows ≡ true)
+pub row-and : (size : ℕ) (row : Row) (rows : List Row) → rowsWithin size (row ∷ rows) ≡ true
+    → RowIn size row × (rowsWithin size rows ≡ true)
 unfolding rowsWithin
 row-and size row rows e =
     let a = both _ _ e in
     let b = both _ _ (a .0) in
     ((leb-true _ _ (b .0), leb-true _ _ (b .1)), a .1)
 
-rows-length : (source : List ℕ) (n : ℕ) (rows : List Row) → rowsWithin (length source) rows ≡ true → length (putRows source n rows) ≡ rowsSize n rows
+rows-length : (source : List ℕ) (n : ℕ) (rows : List Row) → rowsWithin (length source) rows ≡ true
+    → length (putRows source n rows) ≡ rowsSize n rows
 unfolding putRows rowsSize
 rows-length source n [] e = refl
 rows-length source n (row ∷ rows) e =
@@ -69,7 +72,8 @@ module _ (source : List ℕ) (rows : List Row) (slots : List ℕ) (in-source : r
   item-length (item.Map n) e = rows-length source n rows in-source
   item-length item.End e = refl
 
-  pub items-length : (xs : List Item) → itemsWithin (length source) slots xs ≡ true → length (putItems source rows slots xs) ≡ itemsSize rows slots xs
+  pub items-length : (xs : List Item) → itemsWithin (length source) slots xs ≡ true
+      → length (putItems source rows slots xs) ≡ itemsSize rows slots xs
   unfolding putItems itemsSize itemsWithin
   items-length [] e = refl
   items-length (x ∷ xs) e =
@@ -87,7 +91,12 @@ module _ (source : List ℕ) (rows : List Row) (slots : List ℕ) (in-source : r
       let a = both _ _ e in
       let b = both _ _ (a .1) in
       simp length-append
-      (rw (part-size 1 (getD slots 0 0) (itemsOf 6) (a .0), part-size 2 (getD slots 8 0) (itemsOf 7) (b .0), items-length (itemsOf 2) (b .1)))
+      (rw (
+        part-size 1 (getD slots 0 0) (itemsOf 6) (a .0),
+        part-size 2 (getD slots 8 0) (itemsOf 7) (b .0),
+        items-length (itemsOf 2)
+            (b .1),
+      ))
 
   pub message-length : (schema : ℕ) → messageWithin (length source) slots schema ≡ true
       → length (putMessage source rows slots schema) ≡ sizesOf rows slots schema .message

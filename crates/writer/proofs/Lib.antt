@@ -6,3 +6,5 @@ mod Refusals
 mod LeftOut
 mod FieldLists
 mod ItemCases
+-- Demand 1, of every public entry
+pub mod AsksNothing

@@ -4,10 +4,8 @@ use mathlib.Core.Path.{_≡_, refl, sym, ap, _∙_}
 use mathlib.Core.Bool.{true}
 use mathlib.Core.List.{List}
 use lib.ListN.{length}
-use Rattle.decoder.specs.Schema.{width}
+use Rattle.decoder.specs.Schema.{width, schemaAt, partSchema, slotAt}
 use Rattle.decoder.specs.Rows.{Row, rowsIn}
-use Rattle.decoder.specs.Decoding.{schemaAt}
-use Rattle.decoder.specs.DecoderState.{partSchema, slotAt}
 use Rattle.message.specs.Records.{schemaOf}
 use Rattle.message.specs.declared.Kind.{Kind}
 use Rattle.message.specs.declared.Kind.the-variants as kinds

@@ -1,7 +1,6 @@
--- The refusals in two steps are those of the paper's order.
+-- What `write_content` answers of a content that has no error is what `written` says of its record.
 use Prim.Native.Nat.{ℕ, _+_, _≤_}
 use mathlib.Core.Path.{_≡_, refl, sym, _∙_}
-use mathlib.Core.Bool.{Bool, true, false, cond}
 use mathlib.Core.List.{List, _++_}
 use lib.ListN.{length, drop, length-append}
 use lib.Dec.{leb, eqb}
@@ -10,31 +9,14 @@ use borrow.Author.Tests.{le-leb, leb-true, ne-eqb}
 use Rattle.frame.specs.Header.{maxFrame, unless}
 use Rattle.frame.proofs.Codes.{kept}
 use Rattle.field_writer.specs.Writing.{stored}
-use Rattle.message.specs.Records.{schemaOf}
 use Rattle.message.specs.declared.Kind.{Kind}
 use Rattle.message.specs.declared.Record.{Record}
 use Rattle.outgoing.specs.Content.{kindOf, recordId, rowCount, slotsOf}
-use Rattle.validation.specs.Grounds.{rowsOk, spansWithin, rowsWithin, keysDiffer, absentOk, bodyOk}
-use Rattle.writer.specs.Writing.{maxHeader, headerSize, fixedHeader, rowsOf, messageOf, frameOf, writeError, writtenBy}
+use Rattle.writer.specs.Writing.{maxHeader, headerSize, fixedHeader, messageOf, frameOf, sizeError, writeError, written}
 use Rattle.validation.specs.Grounds.{contentError}
-use Rattle.writer.specs.Items.{sizeError, Puts, messageIn, frameWith, writtenWith}
+use Rattle.writer.specs.Items.{Puts, messageIn, frameWith, writtenWith}
 use Rattle.writer.specs.declared.Encoded.the-variants.{Frame, Refused}
 use Rattle.outgoing.specs.declared.Content.{Content}
-
--- the first error, else the second
-abbrev pub orElse : ℕ → ℕ → ℕ
-orElse a b = cond (eqb a 0) b a
-
-six : (a b c d e f : Bool) (s : ℕ)
-    → unless a 18 (unless b 17 (unless c 17 (unless d 18 (unless e 18 (unless f 15 s)))))
-    ≡ orElse (unless a 18 (unless b 17 (unless c 17 (unless d 18 (unless e 18 (unless f 15 0)))))) s
-six false b c d e f s = refl
-six true false c d e f s = refl
-six true true false d e f s = refl
-six true true true false e f s = refl
-six true true true true false f s = refl
-six true true true true true false s = refl
-six true true true true true true s = refl
 
 pub header-length : (kind : Kind) (total size id : ℕ) → length (fixedHeader kind total size id) ≡ 16
 unfolding fixedHeader
@@ -51,19 +33,11 @@ module _ (r : Record) (source numbers body : List ℕ) where
 
   pub error-is : (room : ℕ)
       → writeError r source numbers body room
-      ≡ orElse (contentError (kindOf r) (slotsOf r) (rowCount r) source numbers (length body))
+      ≡ unless (eqb (contentError (kindOf r) (slotsOf r) (rowCount r) source numbers (length body)) 0)
+      (contentError (kindOf r) (slotsOf r) (rowCount r) source numbers (length body))
       (sizeError (length (messageOf r source numbers)) (16 + length (messageOf r source numbers) + length body) room)
-  unfolding writeError contentError sizeError
-  error-is room =
-      rw frame-length
-      (six
-      (rowsOk (kindOf r) (rowCount r) (length numbers))
-      (spansWithin (length source) (schemaOf (kindOf r)) 0 (slotsOf r))
-      (rowsWithin (length source) (rowsOf r numbers))
-      (keysDiffer source (rowsOf r numbers))
-      (absentOk (rowsOf r numbers) (schemaOf (kindOf r)) 0 (slotsOf r))
-      (bodyOk (kindOf r) (slotsOf r) (length body))
-      (sizeError (length (messageOf r source numbers)) (16 + length (messageOf r source numbers) + length body) room))
+  unfolding writeError
+  error-is room = rw frame-length
 
 -- ---- what is answered
 
@@ -76,8 +50,10 @@ no-error size total room e =
     let c = kept (leb total room) 27 0 (omega arith) (b .1) in
     (leb-true _ _ (a .0), leb-true _ _ (b .0), leb-true _ _ (c .0))
 
-module _ (c : Content) (header body output : List ℕ) (e : ℕ) (is-e : e ≡ sizeError (length header) (16 + length header + length body) (length output)) where
-  pub refused-size : (e ≡ 0 → ⊥) → (Refused e ≡ writtenWith c header body output .answer) × (output ≡ writtenWith c header body output .output)
+module _ (c : Content) (header body output : List ℕ) (e : ℕ)
+    (is-e : e ≡ sizeError (length header) (16 + length header + length body) (length output)) where
+  pub refused-size : (e ≡ 0 → ⊥)
+      → (Refused e ≡ writtenWith c header body output .answer) × (output ≡ writtenWith c header body output .output)
   refused-size h = (rw (← is-e, ne-eqb e 0 h), rw (← is-e, ne-eqb e 0 h))
 
   with-length : length (frameWith c header body) ≡ 16 + length header + length body
@@ -105,12 +81,13 @@ module _ (r : Record) (source numbers body output : List ℕ) (c : Content)
   of-record = rw (is-c .0, is-c .2, is-c .3) at is-e
 
   pub refused-content : (e ≡ 0 → ⊥)
-      → (Refused e ≡ writtenBy r source numbers body output .answer) × (output ≡ writtenBy r source numbers body output .output)
+      → (Refused e ≡ written r source numbers body output .answer) × (output ≡ written r source numbers body output .output)
   refused-content h =
-      let same : writeError r source numbers body (length output) ≡ e = error-is r source numbers body (length output) ∙ rw (← of-record, ne-eqb e 0 h) in
+      let same : writeError r source numbers body (length output) ≡ e = error-is r source numbers body (length output)
+      ∙ rw (← of-record, ne-eqb e 0 h) in
       (rw (same, ne-eqb e 0 h), rw (same, ne-eqb e 0 h))
 
-  pub accepted-content : e ≡ 0 → writtenWith c (messageIn c source numbers) body output ≡ writtenBy r source numbers body output
+  pub accepted-content : e ≡ 0 → writtenWith c (messageIn c source numbers) body output ≡ written r source numbers body output
   unfolding frameOf
   accepted-content h =
       let same : writeError r source numbers body (length output)

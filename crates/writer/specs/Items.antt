@@ -1,23 +1,23 @@
--- What the writer's private functions promise each other: what is written of each field of a message, as a list. No sentence of the paper is
--- here; `proofs` has the laws that it agrees with `Encoding` and `Grounds`.
-use Prim.Native.Nat.{ℕ, _+_, _*_, _≤_}
+-- What the writer's private functions promise each other: what is written of each field of a message, as a list. No sentence of the paper
+-- is here; `proofs` has the laws that it agrees with `Encoding` and `Grounds`.
+use Prim.Native.Nat.{ℕ, _+_, _*_, _<_, _≤_}
 use mathlib.Core.Path.{_≡_}
 use mathlib.Core.Bool.{Bool, true, false, cond, _&&_}
 use mathlib.Core.List.{List, [], _∷_, _++_}
 use lib.ListN.{length, getD}
-use lib.Dec.{leb, eqb}
+use lib.Dec.{eqb}
 use Rattle.field_writer.specs.Writing.{putVarint, putTag, putBytes, stored}
 use Rattle.field_writer.specs.declared.Written.{Written}
 use Rattle.field_writer.specs.declared.Written.the-variants as writes
 use Rattle.decoder.specs.Schema.{Integer, uint32, int32}
 use Rattle.decoder.specs.Rows.{Row, rowsIn}
 use Rattle.decoder.specs.Fields.{partOf}
-use Rattle.frame.specs.Header.{maxFrame, unless}
+use Rattle.frame.specs.Header.{maxFrame}
 use Rattle.message.specs.Records.{schemaOf}
 use Rattle.writer.specs.Encoding.{putNumber, putSome, putRows, putFields}
 use Rattle.validation.specs.Grounds.{rowsWithin}
 use Rattle.outgoing.specs.Items.{itemsOf, itemsWithin}
-use Rattle.writer.specs.Writing.{maxHeader, headerSize, fixedHeader, Writing, refusedWith, wrote}
+use Rattle.writer.specs.Writing.{headerSize, fixedHeader, sizeError, Writing, refusedWith, wrote}
 use Rattle.outgoing.specs.declared.Content.{Content}
 use Rattle.writer.specs.declared.entry.MapEntry.{MapEntry}
 use Rattle.writer.specs.declared.sizes.Sizes.{Sizes}
@@ -54,7 +54,7 @@ pub record Puts (x out : List ℕ) (at next : ℕ) (after : List ℕ) : Type 0 w
 -- the place behind what was written, or the same place where there was no room
 abbrev pub placeOf : Written → (at : ℕ) → ℕ
 placeOf (writes.Next next) at = next
-placeOf writes.Full at = at
+placeOf (writes.Refused error) at = at
 
 unfoldable pub putItem : (source : List ℕ) → List Row → (slots : List ℕ) → Item → List ℕ
 putItem source rows slots (item.Unsigned n i) = putNumber uint32 n (getD slots i 0)
@@ -81,7 +81,7 @@ putInit source rows slots =
 abbrev pub putMessage : (source : List ℕ) → List Row → (slots : List ℕ) → (schema : ℕ) → List ℕ
 putMessage source rows slots schema = cond (eqb schema 2) (putInit source rows slots) (putItems source rows slots (itemsOf schema))
 
--- ---- how many bytes that is, by the lengths alone
+-- ---- how many bytes that is, by the lengths only
 -- a field of `size` bytes
 abbrev pub bytesSize : (n size : ℕ) → ℕ
 bytesSize n size = length (putTag n 2) + length (putVarint size) + size
@@ -137,6 +137,10 @@ mostFields = 13194139533312
 abbrev pub mostMessage : ℕ
 mostMessage = 140737488355328
 
+-- n is the total, or both are over 65,536
+abbrev pub SizeOf : (total n : ℕ) → Type 0
+SizeOf total n = (total ≤ maxFrame → n ≡ total) × (maxFrame < total → maxFrame < n)
+
 -- ---- the grounds
 unfoldable pub initWithin : (size : ℕ) → (slots : List ℕ) → Bool
 initWithin size slots =
@@ -145,11 +149,6 @@ initWithin size slots =
 -- of the message of a schema number
 abbrev pub messageWithin : (size : ℕ) → (slots : List ℕ) → (schema : ℕ) → Bool
 messageWithin size slots schema = cond (eqb schema 2) (initWithin size slots) (itemsWithin size slots (itemsOf schema))
-
--- ---- the refusals in two steps: `contentError` (crate `outgoing`), and then
--- those of the sizes of the message and of the frame: 19, 20, 27
-unfoldable pub sizeError : (size total room : ℕ) → ℕ
-sizeError size total room = unless (leb total maxFrame) 19 (unless (leb size maxHeader) 20 (unless (leb total room) 27 0))
 
 -- ---- a content
 -- the rows are lent, and few enough that no size overflows

@@ -10,10 +10,9 @@ use Rattle.message.specs.Records.{schemaOf}
 use Rattle.message.specs.declared.Kind.{Kind}
 use Rattle.message.specs.declared.Kind.the-variants as kinds
 use Rattle.message.specs.declared.Record.{Record}
-use Rattle.message.specs.declared.Record.the-variants as records
 use Rattle.outgoing.specs.Content.{kindOf, recordId, rowCount, slotsOf}
 use Rattle.writer.specs.Encoding.{putFields}
-use Rattle.validation.specs.Grounds.{rowsOk, spansWithin, rowsWithin, keysDiffer, absentOk, bodyOk}
+use Rattle.validation.specs.Grounds.{contentError}
 use Rattle.writer.specs.declared.Encoded.{Encoded}
 use Rattle.writer.specs.declared.Encoded.the-variants.{Frame, Refused}
 
@@ -61,11 +60,12 @@ rowsOf r numbers = rowsIn (rowCount r) numbers
 abbrev pub messageOf : Record → (source numbers : List ℕ) → List ℕ
 messageOf r source numbers = putFields source (rowsOf r numbers) (schemaOf (kindOf r)) 0 (slotsOf r)
 
--- "A unary frame is these 16, the header message, then the body. A stream frame is these 16, then its message, or raw bytes for Data." A Data frame's
--- message is empty, and a body with the other stream kinds is refused.
+-- "A unary frame is these 16, the header message, then the body. A stream frame is these 16, then its message, or raw bytes for Data." A
+-- Data frame's message is empty, and a body with the other stream kinds is refused.
 unfoldable pub frameOf : Record → (source numbers body : List ℕ) → List ℕ
 frameOf r source numbers body =
-    fixedHeader (kindOf r) (16 + length (messageOf r source numbers) + length body) (headerSize (kindOf r) (messageOf r source numbers)) (recordId r)
+    fixedHeader (kindOf r) (16 + length (messageOf r source numbers) + length body) (headerSize (kindOf r) (messageOf r source numbers))
+    (recordId r)
     ++ messageOf r source numbers ++ body
 
 -- ---- the refusals
@@ -73,19 +73,16 @@ frameOf r source numbers body =
 abbrev pub maxHeader : ℕ
 maxHeader = 65535
 
--- "Writer 18's first three grounds, 17, 18's others, 15, 19, 20, 27": the first that holds, 0 for none
+-- "frame over 65,536", "header message over 65,535", "output shorter than the frame": by the sizes of message, frame and output
+unfoldable pub sizeError : (size total room : ℕ) → ℕ
+sizeError size total room = unless (leb total maxFrame) 19 (unless (leb size maxHeader) 20 (unless (leb total room) 27 0))
+
+-- "Writer 18's first three grounds, 17, 18's others, 15" (crate `validation`), "19, 20, 27": the first that holds, 0 for none
 unfoldable pub writeError : Record → (source numbers body : List ℕ) → (room : ℕ) → ℕ
 writeError r source numbers body room =
-    unless (rowsOk (kindOf r) (rowCount r) (length numbers)) 18
-    (unless (spansWithin (length source) (schemaOf (kindOf r)) 0 (slotsOf r)) 17
-    (unless (rowsWithin (length source) (rowsOf r numbers)) 17
-    (unless (keysDiffer source (rowsOf r numbers)) 18
-    (unless (absentOk (rowsOf r numbers) (schemaOf (kindOf r)) 0 (slotsOf r)) 18
-    (unless (bodyOk (kindOf r) (slotsOf r) (length body)) 15
-    (unless (leb (length (frameOf r source numbers body)) maxFrame) 19
-    (unless (leb (length (messageOf r source numbers)) maxHeader) 20
-    (unless (leb (length (frameOf r source numbers body)) room) 27
-    0))))))))
+    unless (eqb (contentError (kindOf r) (slotsOf r) (rowCount r) source numbers (length body)) 0)
+    (contentError (kindOf r) (slotsOf r) (rowCount r) source numbers (length body))
+    (sizeError (length (messageOf r source numbers)) (length (frameOf r source numbers body)) room)
 
 -- ---- writing
 pub record Writing : Type 0 where
@@ -100,22 +97,13 @@ refusedWith code output = record { answer = Refused code; output = output }
 abbrev pub wrote : List ℕ → List ℕ → Writing
 wrote frame output = record { answer = Frame (length frame); output = frame ++ drop (length frame) output }
 
--- "A number is given exactly when its ground holds and none before it in the order does; with no ground the entry does its work."
-abbrev pub writtenBy : Record → (source numbers body output : List ℕ) → Writing
-writtenBy r source numbers body output =
+-- "The writer takes a record, the bytes its starts refer to, its rows and a body." "A number is given exactly when its ground holds and
+-- none before it in the order does; with no ground the entry does its work."
+abbrev pub written : Record → (source numbers body output : List ℕ) → Writing
+written r source numbers body output =
     cond (eqb (writeError r source numbers body (length output)) 0)
     (wrote (frameOf r source numbers body) output)
     (refusedWith (writeError r source numbers body (length output)) output)
-
--- "The writer takes a record, the bytes its starts refer to, its rows and a body." A record that its reader refused is none: its number is given again.
-unfoldable pub written : Record → (source numbers body output : List ℕ) → Writing
-written (records.Request r) = writtenBy (records.Request r)
-written (records.Response r) = writtenBy (records.Response r)
-written (records.Init r) = writtenBy (records.Init r)
-written (records.Data r) = writtenBy (records.Data r)
-written (records.Feedback r) = writtenBy (records.Feedback r)
-written (records.Close r) = writtenBy (records.Close r)
-written (records.Refused code) = λ (source numbers body output : List ℕ). refusedWith code output
 
 -- "a refused write counts 0 bytes": what each answer says, as the paper's numbers
 unfoldable pub countOf : Encoded → ℕ

@@ -7,11 +7,8 @@ use crate::put::put_message;
 use crate::sizes::Sizes;
 use crate::sizes::message_sizes;
 use message::Kind;
-use message::Record;
 use outgoing::Content;
-use outgoing::content_of;
 use outgoing::schema_number;
-use validation::content_error;
 ghost use mathlib.Core.Path.{_≡_};
 ghost use mathlib.Core.Bool.{true, cond};
 ghost use Prim.Native.Nat.{_+_, _≤_};
@@ -19,22 +16,31 @@ ghost use lib.Dec.{eqb};
 ghost use lib.ListN.{length};
 ghost use Rattle.frame.specs.Header.{maxFrame};
 ghost use Rattle.decoder.specs.Rows.{rowsIn};
-ghost use Rattle.writer.specs.Writing.{dataType, maxHeader, writtenBy};
+ghost use Rattle.writer.specs.Writing.{dataType, maxHeader, sizeError};
 ghost use Rattle.outgoing.specs.Items.{schemaNumber};
-ghost use Rattle.writer.specs.Items.{sizesOf, messageWithin, mostMessage, sizeError, Puts, Lent, RowsIn, messageIn, frameWith, writtenWith};
+ghost use Rattle.writer.specs.Items.{sizesOf, messageWithin, mostMessage, SizeOf, Puts, Lent, RowsIn};
+ghost use Rattle.writer.specs.Items.{messageIn, frameWith, writtenWith};
 
 // "header message over 65,535"
 const MAX_HEADER: usize = 65535;
+
+// The size of a frame; of one that is over 65,536, some size that is over it. Such a sum could pass what a number holds.
+fn frame_size(size: usize, body: usize) -> usize
+    requires { ⌜ size ≤ mostMessage ⌝ }
+    ensures { λ r. ⌜ SizeOf (16 + size + body) r ⌝ }
+{
+    if body > frame::MAX_FRAME {
+        return frame::MAX_FRAME + 1;
+    }
+    frame::HEADER + size + body
+}
 
 // 19: the frame; 20: the header message; 27: the output. 0 for none.
 fn size_error(size: usize, body: usize, room: usize) -> u32
     requires { ⌜ size ≤ mostMessage ⌝ }
     ensures { λ r. ⌜ r ≡ sizeError size (16 + size + body) room ⌝ }
 {
-    if body > frame::MAX_FRAME {
-        return 19;
-    }
-    let total = frame::HEADER + size + body;
+    let total = frame_size(size, body);
     if total > frame::MAX_FRAME {
         return 19;
     }
@@ -64,8 +70,12 @@ fn put_frame(
     body: &[u8],
     out: &mut [u8],
 ) -> usize
-    requires { ⌜ RowsIn (c .rows) (now source) (now rows) × (messageWithin (length (now source)) (c .values) (schemaNumber (c .kind)) ≡ true) × (sizes ≡ sizesOf (rowsIn (c .rows) (now rows)) (c .values) (schemaNumber (c .kind))) × (sizes .message ≤ maxHeader) × (16 + sizes .message + length (now body) ≤ maxFrame) × (16 + sizes .message + length (now body) ≤ length (now out)) ⌝ }
-    ensures { λ r. ⌜ Puts (frameWith c (messageIn c (now (source .entry)) (now (rows .entry))) (now (body .entry))) (now (out .entry)) 0 r (now (out .exit)) ⌝ }
+    requires { ⌜ RowsIn (c .rows) (now source) (now rows)
+        × (messageWithin (length (now source)) (c .values) (schemaNumber (c .kind)) ≡ true)
+        × (sizes ≡ sizesOf (rowsIn (c .rows) (now rows)) (c .values) (schemaNumber (c .kind))) × (sizes .message ≤ maxHeader)
+        × (16 + sizes .message + length (now body) ≤ maxFrame) × (16 + sizes .message + length (now body) ≤ length (now out)) ⌝ }
+    ensures { λ r. ⌜ Puts (frameWith c (messageIn c (now (source .entry)) (now (rows .entry))) (now (body .entry)))
+        (now (out .entry)) 0 r (now (out .exit)) ⌝ }
 {
     let kind = c.kind;
     let total = frame::HEADER + sizes.message + body.len();
@@ -81,10 +91,19 @@ fn put_frame(
 }
 
 // Of a content that has no other ground of refusal.
-fn write_content(c: Content, source: &[u8], rows: &[u32], body: &[u8], out: &mut [u8]) -> Encoded
-    requires { ⌜ Lent (c .rows) (now rows) × RowsIn (c .rows) (now source) (now rows) × (messageWithin (length (now source)) (c .values) (schemaNumber (c .kind)) ≡ true) ⌝ }
-    ensures { λ r. ⌜ (r ≡ writtenWith c (messageIn c (now (source .entry)) (now (rows .entry))) (now (body .entry)) (now (out .entry)) .answer)
-        × (now (out .exit) ≡ writtenWith c (messageIn c (now (source .entry)) (now (rows .entry))) (now (body .entry)) (now (out .entry)) .output) ⌝ }
+pub(crate) fn write_content(
+    c: Content,
+    source: &[u8],
+    rows: &[u32],
+    body: &[u8],
+    out: &mut [u8],
+) -> Encoded
+    requires { ⌜ Lent (c .rows) (now rows) × RowsIn (c .rows) (now source) (now rows)
+        × (messageWithin (length (now source)) (c .values) (schemaNumber (c .kind)) ≡ true) ⌝ }
+    ensures { λ r. ⌜ (r ≡ writtenWith c (messageIn c (now (source .entry)) (now (rows .entry))) (now (body .entry))
+        (now (out .entry)) .answer)
+        × (now (out .exit) ≡ writtenWith c (messageIn c (now (source .entry)) (now (rows .entry))) (now (body .entry))
+        (now (out .entry)) .output) ⌝ }
 {
     let kind = c.kind;
     let sizes = message_sizes(schema_number(kind), c, rows);
@@ -93,23 +112,4 @@ fn write_content(c: Content, source: &[u8], rows: &[u32], body: &[u8], out: &mut
         return Encoded::Refused(error);
     }
     Encoded::Frame(put_frame(c, sizes, source, rows, body, out))
-}
-
-// Of a record that was not refused by its reader.
-pub(crate) fn write_record(
-    record: Record,
-    source: &[u8],
-    rows: &[u32],
-    body: &[u8],
-    out: &mut [u8],
-) -> Encoded
-    ensures { λ r. ⌜ (r ≡ writtenBy «record» (now (source .entry)) (now (rows .entry)) (now (body .entry)) (now (out .entry)) .answer)
-        × (now (out .exit) ≡ writtenBy «record» (now (source .entry)) (now (rows .entry)) (now (body .entry)) (now (out .entry)) .output) ⌝ }
-{
-    let c = content_of(record);
-    let error = content_error(c, source, rows, body.len());
-    if error != 0 {
-        return Encoded::Refused(error);
-    }
-    write_content(c, source, rows, body, out)
 }

@@ -5,8 +5,10 @@ mod header;
 mod put;
 mod sizes;
 
-use encode::write_record;
+use encode::write_content;
 use message::Record;
+use outgoing::content_of;
+use validation::content_error;
 ghost use mathlib.Core.Path.{_≡_};
 ghost use Rattle.writer.specs.Writing.{written};
 
@@ -17,14 +19,15 @@ pub enum Encoded {
 }
 
 // Writes the frame of a record to the start of the output. `source` is the bytes that the starts of the record and of its rows
-// count from, and `rows` has four numbers for each row. A record that its reader refused is not written: its error code is
-// answered again.
+// count from, and `rows` has four numbers for each row.
 pub fn write(record: Record, source: &[u8], rows: &[u32], body: &[u8], out: &mut [u8]) -> Encoded
     ensures { λ r. ⌜ (r ≡ written «record» (now (source .entry)) (now (rows .entry)) (now (body .entry)) (now (out .entry)) .answer)
         × (now (out .exit) ≡ written «record» (now (source .entry)) (now (rows .entry)) (now (body .entry)) (now (out .entry)) .output) ⌝ }
 {
-    match record {
-        Record::Refused(code) => Encoded::Refused(code),
-        _ => write_record(record, source, rows, body, out),
+    let c = content_of(record);
+    let error = content_error(c, source, rows, body.len());
+    if error != 0 {
+        return Encoded::Refused(error);
     }
+    write_content(c, source, rows, body, out)
 }

@@ -1,17 +1,17 @@
-// Bytes that go into an output with room for them. Each function returns the place behind what it stored.
+// Bytes that go into an output with room for them. Each function returns the place after what it stored.
 use crate::entry::MapEntry;
 use crate::entry::entry_at;
 use crate::sizes::Sizes;
 use crate::sizes::entry_size;
 use crate::sizes::value_at;
 use crate::sizes::widened;
+use decoder::INIT;
+use decoder::REQUEST_META;
+use decoder::RESPONSE_META;
 use field_writer::Written;
 use outgoing::Content;
-use outgoing::INIT;
 use outgoing::Item;
 use outgoing::MAX_FIELDS;
-use outgoing::REQUEST_META;
-use outgoing::RESPONSE_META;
 use outgoing::item_at;
 ghost use mathlib.Core.Path.{_≡_};
 ghost use mathlib.Core.Bool.{true};
@@ -31,7 +31,7 @@ pub(crate) fn place_behind(w: Written, at: usize) -> usize
 {
     match w {
         Written::Next(next) => next,
-        Written::Full => at,
+        Written::Refused(_) => at,
     }
 }
 
@@ -40,7 +40,8 @@ fn put_tagged(number: u32, wire_type: u32, value: u64, out: &mut [u8], at: usize
     requires { ⌜ at + length (putTag number «wire_type» ++ putVarint value) ≤ length (now out) ⌝ }
     ensures { λ r. ⌜ Puts (putTag number «wire_type» ++ putVarint value) (now (out .entry)) at r (now (out .exit)) ⌝ }
 {
-    let next = place_behind(field_writer::write_tag(number, wire_type, out, at), at);
+    let tag = (number as u64) * 8 + (wire_type as u64);
+    let next = place_behind(field_writer::write_varint(tag, out, at), at);
     place_behind(field_writer::write_varint(value, out, next), next)
 }
 
@@ -61,9 +62,10 @@ fn put_span(number: u32, start: u32, size: u32, source: &[u8], out: &mut [u8], a
 {
     let first = start as usize;
     let end = first + (size as usize);
+    let inside = put_tagged(number, 2, size as u64, out, at);
     place_behind(
-        field_writer::write_bytes(number, &source[first..end], out, at),
-        at,
+        field_writer::write_raw(&source[first..end], out, inside),
+        inside,
     )
 }
 

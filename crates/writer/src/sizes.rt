@@ -1,12 +1,12 @@
-// How many bytes a message takes, by the lengths alone.
+// How many bytes a message takes, by the lengths only.
 use crate::entry::MapEntry;
 use crate::entry::entry_at;
+use decoder::INIT;
+use decoder::REQUEST_META;
+use decoder::RESPONSE_META;
 use outgoing::Content;
-use outgoing::INIT;
 use outgoing::Item;
 use outgoing::MAX_FIELDS;
-use outgoing::REQUEST_META;
-use outgoing::RESPONSE_META;
 use outgoing::item_at;
 ghost use mathlib.Core.Path.{_≡_};
 ghost use Prim.Native.Nat.{_+_, _≤_, _<_};
@@ -15,7 +15,8 @@ ghost use Rattle.field_writer.specs.Writing.{putTag};
 ghost use Rattle.decoder.specs.Rows.{rowsIn};
 ghost use Rattle.writer.specs.Encoding.{wide, putNumber};
 ghost use Rattle.outgoing.specs.Items.{itemsOf, Placed};
-ghost use Rattle.writer.specs.Items.{integerOf, rowOf, bytesSize, entrySize, rowsSize, sizeIf, itemSize, itemsSize, initSizes, sizesOf, mostRow, mostItem, mostFields, mostMessage, Lent};
+ghost use Rattle.writer.specs.Items.{integerOf, rowOf, bytesSize, entrySize, rowsSize, sizeIf, itemSize, itemsSize};
+ghost use Rattle.writer.specs.Items.{initSizes, sizesOf, mostRow, mostItem, mostFields, mostMessage, Lent};
 
 // Of the whole message, and of what is inside the two parts of Init.
 pub(crate) struct Sizes {

@@ -10,10 +10,9 @@ use message::Response;
 use message::ResponseMeta;
 use message::Span;
 
-// The kinds are numbered from 0 in the order of `Record`; one that was refused has its error code for
-// the id. The fields `v` are in the order of source document 000, without the map: a byte field is a
-// start and a length, an int32 its 32 bits, and a part of Init its present mark, 0 or 1, before its
-// own fields.
+// The kinds are numbered from 0 in the order of `Record`. The fields `v` are in the order of source
+// document 000, without the map: a byte field is a start and a length, an int32 its 32 bits, and a part
+// of Init its present mark, 0 or 1, before its own fields.
 pub(crate) fn record_of(kind: u32, id: u32, rows: u32, v: [u32; 16]) -> Record {
     match kind {
         0 => Record::Request(request(id, rows, v)),
@@ -25,8 +24,7 @@ pub(crate) fn record_of(kind: u32, id: u32, rows: u32, v: [u32; 16]) -> Record {
             window_size_increment: v[0],
             rows,
         }),
-        5 => Record::Close(close(id, rows, v)),
-        _ => Record::Refused(id),
+        _ => Record::Close(close(id, rows, v)),
     }
 }
 

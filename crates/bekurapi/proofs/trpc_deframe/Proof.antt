@@ -21,10 +21,14 @@ same-length c = search needs
 returns : tie.Need-returns
 returns c =
     let gave = c .before .before .before .before .before .deframe .ensures in
-    let answer = ap (λ (x : Step). x .progress) (gave .0) in (
-      (c .progress-error .ensures ∙ ap progressError answer, c .before .progress-size .ensures ∙ ap progressSize answer),
-      (ap (λ (x : Step). x .next) (gave .0), (ap (λ (x : Step). x .taken) (gave .0), gave .1)),
-    )
+    let answer = ap (λ (x : Step). x .progress) (gave .0) in
+    record {
+      code-is = c .progress-error .ensures ∙ ap progressError answer;
+      size-is = c .before .progress-size .ensures ∙ ap progressSize answer;
+      state-is = ap (λ (x : Step). x .next) (gave .0);
+      taken-is = ap (λ (x : Step). x .taken) (gave .0);
+      buffer-is = gave .1;
+    }
 
 pub trpc-deframe-spec : {M : Type 1} → statement M
 trpc-deframe-spec =

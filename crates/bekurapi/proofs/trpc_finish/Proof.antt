@@ -15,7 +15,9 @@ end-error-requires : tie.Need-end-error-requires
 end-error-requires c κs = search needs
 
 returns : tie.Need-returns
-returns c = (c .end-error .ensures ∙ ap endError (c .before .before .finish .ensures), c .before .end-short .ensures ∙ ap endShort (c .before .before .finish .ensures))
+returns c =
+    let end = c .before .before .finish .ensures in
+    (c .end-error .ensures ∙ ap endError end, c .before .end-short .ensures ∙ ap endShort end)
 
 pub trpc-finish-spec : {M : Type 1} → statement M
 trpc-finish-spec =

@@ -22,13 +22,14 @@ returns : tie.Need-returns
 returns c =
     let at-header-in = c .before .before in
     let answer = at-header-in .before .parse-header .ensures in
-    let header = at-header-in .header-in .ensures ∙ ap headerIn answer in (
-      c .parsed-error .ensures ∙ ap parsedError answer,
-      c .before .type-number .ensures ∙ ap (λ (h : FixedHeader). typeNumber (h .«frame_type»)) header,
-      ap (λ (h : FixedHeader). h .total) header,
-      ap (λ (h : FixedHeader). h .«header_size») header,
-      ap (λ (h : FixedHeader). h .id) header,
-    )
+    let header = at-header-in .header-in .ensures ∙ ap headerIn answer in
+    record {
+      code-is = c .parsed-error .ensures ∙ ap parsedError answer;
+      type-is = c .before .type-number .ensures ∙ ap (λ (h : FixedHeader). typeNumber (h .«frame_type»)) header;
+      total-is = ap (λ (h : FixedHeader). h .total) header;
+      header-size-is = ap (λ (h : FixedHeader). h .«header_size») header;
+      id-is = ap (λ (h : FixedHeader). h .id) header;
+    }
 
 pub trpc-header-parse-spec : {M : Type 1} → statement M
 trpc-header-parse-spec =

@@ -9,8 +9,8 @@ use lib.Seq.{take-all, drop-drop, take-length}
 use native.Mathlib.Omega.{arith}
 use borrow.Author.Tests.{le-leb, leb-true, leb-false}
 use borrow.Author.Needs.{needs}
-use Rattle.field_writer.specs.Writing.{stored, writtenAt}
-use Rattle.field_writer.specs.declared.Written.the-variants.{Next, Full}
+use Rattle.field_writer.specs.Writing.{outputShort, stored, writtenAt}
+use Rattle.field_writer.specs.declared.Written.the-variants.{Next, Refused}
 use Rattle.field_writer.proofs.Outputs.{written, full}
 use Rattle.field_writer.proofs.write_raw.Statement.{statement}
 use Rattle.field_writer.proofs.write_raw.Tie as tie
@@ -38,7 +38,7 @@ module _ (out x : List ℕ) (at : ℕ) (b : Bool) (is-b : b ≡ leb (at + length
             (simp (append-nil, append-assoc)),
       )
 
-  refuses : b ≡ false → (Full ≡ writtenAt out at x) × (out ≡ stored out at x)
+  refuses : b ≡ false → (Refused outputShort ≡ writtenAt out at x) × (out ≡ stored out at x)
   refuses t = full out at x (omega (arith, leb-false (at + length x) (length out) (sym is-b ∙ t)))
 
 has-room-requires : tie.Need-has-room-requires

@@ -8,8 +8,8 @@ use lib.Dec.{leb}
 use native.Mathlib.Omega.{arith}
 use borrow.Author.Needs.{needs}
 use borrow.Author.Tests.{leb-true, leb-false}
-use Rattle.field_writer.specs.Writing.{putVarint, stored, writtenAt}
-use Rattle.field_writer.specs.declared.Written.the-variants.{Next, Full}
+use Rattle.field_writer.specs.Writing.{putVarint, outputShort, stored, writtenAt}
+use Rattle.field_writer.specs.declared.Written.the-variants.{Next, Refused}
 use Rattle.field_writer.proofs.Outputs.{written, full}
 use Rattle.field_writer.proofs.write_varint.Statement.{statement}
 use Rattle.field_writer.proofs.write_varint.Tie as tie
@@ -22,7 +22,7 @@ module _ (out : List ℕ) (at v n : ℕ) (is-n : n ≡ length (putVarint v)) (b 
       → (Next next ≡ writtenAt out at (putVarint v)) × (out′ ≡ stored out at (putVarint v))
   stores t next is-next out′ is-out′ = (written out at (putVarint v) (fits t) next is-next, is-out′)
 
-  refuses : b ≡ false → (Full ≡ writtenAt out at (putVarint v)) × (out ≡ stored out at (putVarint v))
+  refuses : b ≡ false → (Refused outputShort ≡ writtenAt out at (putVarint v)) × (out ≡ stored out at (putVarint v))
   refuses t = full out at (putVarint v) (omega (arith, leb-false (at + n) (length out) (sym is-b ∙ t)))
 
 varint-len-requires : tie.Need-varint-len-requires

@@ -1,10 +1,11 @@
--- What the deframer takes of the rest of the piece are the laws of `frame`.
+-- The slice is what is left of the piece. How much of it the deframer takes are the laws of `frame`.
 use Prim.Native.Nat.{ℕ, _+_, _-_, _≤_, _<_}
-use mathlib.Core.Path.{_≡_}
+use mathlib.Core.Path.{_≡_, ap, _∙_}
 use mathlib.Core.Bool.{false}
 use mathlib.Core.List.{List}
 use native.Mathlib.Omega.{arith}
-use lib.ListN.{length, take, drop, length-take, length-drop}
+use lib.ListN.{length, take, drop, length-drop}
+use lib.Seq.{take-all}
 use Rattle.frame.specs.Deframe.{deframed}
 use Rattle.frame.specs.Calls.{isRefused}
 use Rattle.frame.specs.declared.Deframer.{Deframer}
@@ -14,12 +15,15 @@ use borrow.Author.Needs.{needs}
 use Rattle.listing.proofs.deframe_rest.Statement.{statement}
 use Rattle.listing.proofs.deframe_rest.Tie as tie
 
+whole : (piece : List ℕ) (from : ℕ) → take (length piece - from) (drop from piece) ≡ drop from piece
+whole piece from = take-all (length piece - from) (drop from piece) (omega (arith, length-drop from piece))
+
 taken : (st : Deframer) (buffer piece : List ℕ) (from : ℕ) (step : Step) → from < length piece
-    → step ≡ deframed st buffer (take (length piece - from) (drop from piece)) .step
+    → step ≡ deframed st buffer (drop from piece) .step
     → (from + step .taken ≤ length piece) × (isRefused (step .progress) ≡ false → 0 < step .taken)
 taken st buffer piece from step h e =
-    let rest = take (length piece - from) (drop from piece) in
-    let l : length rest ≡ length piece - from = omega (arith, length-take (length piece - from) (drop from piece), length-drop from piece) in
+    let rest = drop from piece in
+    let l : length rest ≡ length piece - from = length-drop from piece in
     rw e (omega (arith, taken-within st buffer rest), λ n. taken-some st buffer rest (omega arith) n)
 
 sub-deframe : tie.Need-sub-deframe
@@ -40,8 +44,19 @@ same-length c = search needs
 returns : tie.Need-returns
 returns c =
     let given = c .before .before .before .before .before .before .before .args in
-    taken (given .deframer) (given .buffer .now) (given .piece .now) (given .from) (c .before .before .deframe .result) (omega arith)
-    (c .before .before .deframe .ensures .0)
+    let called = c .before .before .deframe in
+    let st = given .deframer in
+    let buffer = given .buffer .now in
+    let piece = given .piece .now in
+    let from = given .from in
+    let rest = whole piece from in
+    let answer = called .ensures .0 ∙ ap (λ (r : List ℕ). deframed st buffer r .step) rest in (
+      answer,
+      (
+        called .ensures .1 ∙ ap (λ (r : List ℕ). deframed st buffer r .buffer) rest,
+        taken st buffer piece from (called .result) (omega arith) answer,
+      ),
+    )
 
 pub deframe-rest-spec : {M : Type 1} → statement M
 deframe-rest-spec =

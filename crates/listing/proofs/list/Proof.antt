@@ -1,9 +1,10 @@
--- Nothing but the buffers' lengths, and that the pending text is in its buffer, has to hold from read to read. The measure is the count of reads
--- left.
+-- Nothing but the buffers' lengths, and that the pending text is in its buffer, has to hold from read to read. The measure is the
+-- count of reads left.
 use Prim.Native.Nat.{_≤_}
-use mathlib.Core.Path.{_≡_, refl}
+use mathlib.Core.Path.{_≡_, refl, ap}
 use native.Mathlib.Omega.{arith}
 use lib.ListN.{length}
+use Rattle.listing.specs.declared.Listing.{Listing}
 use Rattle.listing.proofs.list.Statement.{statement}
 use Rattle.listing.proofs.list.Tie as tie
 
@@ -14,8 +15,11 @@ Inv-loop piece₀ buffer₀ text₀ listing₀ reads₀ piece buffer text listin
 abbrev μ-loop : tie.MeasureT-loop
 μ-loop piece₀ buffer₀ text₀ listing₀ reads₀ piece buffer text listing reads = reads
 
+fresh-requires : tie.Need-fresh-requires Inv-loop μ-loop
+fresh-requires c κs = tt
+
 loop-holds : tie.Need-loop-holds Inv-loop μ-loop
-loop-holds c = (refl, refl, refl, omega arith)
+loop-holds c = (refl, refl, refl, omega (arith, ap (λ (l : Listing). l .pending) (c .fresh .ensures)))
 
 list-next-requires : tie.Need-list-next-requires Inv-loop μ-loop
 list-next-requires c κs = (omega arith, (omega arith, omega arith))
@@ -59,6 +63,7 @@ list-spec =
     (tie.spec
     Inv-loop
     μ-loop
+    fresh-requires
     loop-holds
     list-next-requires
     sub-reads

@@ -1,20 +1,24 @@
--- The deframer takes at least a byte of what is left of the piece, unless it refuses a header, which ends the loop. The measure is what is left.
+-- The deframer takes at least a byte of what is left of the piece, unless it refuses a header, which ends the loop. The measure is
+-- what is left. Each pass adds a step to those before it.
 use Prim.Native.Nat.{_-_, _≤_}
 use mathlib.Core.Path.{_≡_, refl}
+use mathlib.Core.Logic.{inl, inr}
 use native.Mathlib.Omega.{arith}
 use lib.ListN.{length}
+use Rattle.listing.specs.Steps.{ListsSteps, none, another}
 use Rattle.listing.proofs.list_piece.Statement.{statement}
 use Rattle.listing.proofs.list_piece.Tie as tie
 
 abbrev Inv-loop : tie.InvT-loop
 Inv-loop piece buffer₀ text₀ listed₀ from₀ buffer text listed from =
     (length buffer ≡ length buffer₀) × (length text ≡ length text₀) × (listed .pending ≤ length text₀) × (from ≤ length piece)
+    × ListsSteps piece listed₀ buffer₀ text₀ from listed buffer text
 
 abbrev μ-loop : tie.MeasureT-loop
 μ-loop piece buffer₀ text₀ listed₀ from₀ buffer text listed from = length piece - from
 
 loop-holds : tie.Need-loop-holds Inv-loop μ-loop
-loop-holds c = (refl, refl, omega arith, omega arith)
+loop-holds c = (refl, refl, omega arith, omega arith, none)
 
 deframe-rest-requires : tie.Need-deframe-rest-requires Inv-loop μ-loop
 deframe-rest-requires c κs = omega arith
@@ -29,12 +33,22 @@ loop-less : tie.Need-loop-less Inv-loop μ-loop
 loop-less c =
     omega (
       arith,
-      c .before .before .before .before .before .before .before .before .before .deframe-rest .ensures .1
+      c .before .before .before .before .before .before .before .before .before .deframe-rest .ensures .1 .1 .1
           (c .before .before .before .list-step .ensures .1 (c .if1 .left)),
     )
 
 loop-again : tie.Need-loop-again Inv-loop μ-loop
-loop-again c = (omega arith, omega arith, omega arith, omega arith)
+loop-again c = (
+  omega arith,
+  omega arith,
+  omega arith,
+  omega arith,
+  another
+      (c .before .before .before .before .before .before .before .before .before .before .before .before .loop .inv .4)
+      (c .before .before .before .before .before .before .before .before .before .deframe-rest .ensures .0)
+      (c .before .before .before .before .before .before .before .before .before .deframe-rest .ensures .1 .0)
+      (c .before .before .before .list-step .ensures .2),
+)
 
 same-length : tie.Need-same-length Inv-loop μ-loop
 same-length c = omega arith
@@ -43,7 +57,14 @@ same-length-2 : tie.Need-same-length-2 Inv-loop μ-loop
 same-length-2 c = omega arith
 
 returns : tie.Need-returns Inv-loop μ-loop
-returns c = omega arith
+returns c = (
+  omega arith,
+  record {
+    taken = c .before .loop .from;
+    steps = c .before .loop .inv .4;
+    to-its-end = inr (omega arith);
+  },
+)
 
 same-length-3 : tie.Need-same-length-3 Inv-loop μ-loop
 same-length-3 c = omega arith
@@ -52,7 +73,18 @@ same-length-4 : tie.Need-same-length-4 Inv-loop μ-loop
 same-length-4 c = omega arith
 
 returns-2 : tie.Need-returns-2 Inv-loop μ-loop
-returns-2 c = omega arith
+returns-2 c = (
+  omega arith,
+  record {
+    taken = _;
+    steps = another
+        (c .before .before .before .before .before .before .before .before .before .before .before .before .loop .inv .4)
+        (c .before .before .before .before .before .before .before .before .before .deframe-rest .ensures .0)
+        (c .before .before .before .before .before .before .before .before .before .deframe-rest .ensures .1 .0)
+        (c .before .before .before .list-step .ensures .2);
+    to-its-end = inl (c .if1 .taken);
+  },
+)
 
 pub list-piece-spec : {M : Type 1} → statement M
 list-piece-spec =

@@ -5,14 +5,14 @@ use borrow.Author.Needs.{needs}
 use lib.ListN.{length}
 use Rattle.message.specs.Frames.{Reading, readFrame}
 use Rattle.message.specs.Spans.{spansOf}
-use Rattle.message.specs.declared.Record.{Record}
+use Rattle.message.specs.declared.Answer.{Answer}
 use Rattle.message.specs.declared.Span.{Span}
 use Rattle.message.specs.declared.Located.{Located}
 use Rattle.message.proofs.read_spans.Statement.{statement}
 use Rattle.message.proofs.read_spans.Tie as tie
 
-together : (x : Reading) (size : ℕ) {r : Record} {h b a : Span} → r ≡ x .answer → h ≡ spansOf x size .header → b ≡ spansOf x size .body
-    → a ≡ spansOf x size .attachment → _≡_ {A = Located} (record { «record» = r; header = h; body = b; attachment = a }) (spansOf x size)
+together : (x : Reading) (size : ℕ) {r : Answer} {h b a : Span} → r ≡ x .answer → h ≡ spansOf x size .header → b ≡ spansOf x size .body
+    → a ≡ spansOf x size .attachment → _≡_ {A = Located} (record { answer = r; header = h; body = b; attachment = a }) (spansOf x size)
 together x size e f g h = rw (e, f, g, h) refl
 
 read-parts-requires : tie.Need-read-parts-requires

@@ -35,9 +35,6 @@ enum-known-record-6 c = search needs
 close-content-requires : tie.Need-close-content-requires
 close-content-requires c κs = search needs
 
-enum-told : tie.Need-enum-told
-enum-told c = search needs
-
 returns : tie.Need-returns
 unfolding kindOf recordId slotsOf rowCount
 returns c = rw (c .before .before .«record» .given .1) (c .request-content .ensures)
@@ -62,10 +59,6 @@ returns-6 : tie.Need-returns-6
 unfolding kindOf recordId slotsOf rowCount
 returns-6 c = rw (c .before .before .record6 .given .1) (c .close-content .ensures)
 
-returns-7 : tie.Need-returns-7
-unfolding kindOf recordId slotsOf rowCount
-returns-7 c = rw (c .enum-told .given .1) (refl, refl, refl, refl)
-
 pub content-of-spec : {M : Type 1} → statement M
 content-of-spec =
     tie.close
@@ -80,11 +73,9 @@ content-of-spec =
     enum-known-record-5
     enum-known-record-6
     close-content-requires
-    enum-told
     returns
     returns-2
     returns-3
     returns-4
     returns-5
-    returns-6
-    returns-7)
+    returns-6)

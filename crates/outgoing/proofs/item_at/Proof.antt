@@ -1,7 +1,6 @@
 -- `item_at` meets its contract: the schema number computes to its message, and each message has its own function.
 use borrow.Author.Needs.{needs}
-use Rattle.decoder.specs.Decoding.{schemaAt}
-use Rattle.decoder.specs.DecoderState.{partSchema, slotAt}
+use Rattle.decoder.specs.Schema.{schemaAt, partSchema, slotAt}
 use Rattle.outgoing.proofs.ItemLaws.{no-items}
 use Rattle.outgoing.proofs.item_at.Statement.{statement}
 use Rattle.outgoing.proofs.item_at.Tie as tie

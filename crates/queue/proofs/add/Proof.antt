@@ -1,5 +1,6 @@
 -- `queue::add` meets its contract: each `return` is the answer for the grounds that led there.
 -- Assumes nothing.
+use Prim.Native.Nat.{_≤_}
 use mathlib.Core.Path.{_≡_, sym, ap, _∙_}
 use mathlib.Core.Bool.{false}
 use native.Mathlib.Omega.{arith}
@@ -22,13 +23,20 @@ array c = slots (c .args .q .jobs) _ (c .good .0 .1 .1 .0 .1 .0 .1)
 checked : (c : tie.Else1) → invalid (c .before .before .args .q) ≡ false
 checked c = sym (c .before .invalid .ensures) ∙ c .if1 .left
 
+few : (c : tie.Else1) → c .before .before .args .q .count ≤ capacity
+few c = valid (c .before .before .args .q) (checked c) .few
+
 in-time : (c : tie.Else2) → late (c .before .before .before .before .args .j) ≡ false
 in-time c = le-ltb latestArrival (c .before .before .before .before .args .j .arrival) (c .if2 .left)
 
-new-pair : (c : tie.Else3) → repeats (c .before .before .before .before .before .before .args .q) (c .before .before .before .before .before .before .args .j) ≡ false
+new-pair :
+    (c : tie.Else3)
+    → repeats (c .before .before .before .before .before .before .args .q)
+    (c .before .before .before .before .before .before .args .j) ≡ false
 new-pair c =
     let a = c .before .before .before .before .before .before .args in
-    pair-absent (a .q) (array (c .before .before .before .before .before .before)) (checked (c .before .before .before .before)) (a .j .connection) (a .j .request) (c .before .find .result)
+    pair-absent (a .q) (array (c .before .before .before .before .before .before)) (checked (c .before .before .before .before))
+    (a .j .connection) (a .j .request) (c .before .find .result)
     (c .before .find .ensures) (c .if3 .left)
 
 invalid-requires : tie.Need-invalid-requires
@@ -44,37 +52,39 @@ returns-2 c =
     sym (added-late (a .q) (a .j) (checked (c .before .before)) (lt-ltb latestArrival (a .j .arrival) (c .if2 .taken)))
 
 find-requires : tie.Need-find-requires
-find-requires c κs = (zero≤, valid (c .before .before .before .before .args .q) (checked (c .before .before)) .few)
+find-requires c κs = (zero≤, few (c .before .before))
 
 returns-3 : tie.Need-returns-3
 returns-3 c =
     let a = c .before .before .before .before .before .before .args in
     sym
     (added-duplicate (a .q) (a .j) (checked (c .before .before .before .before)) (in-time (c .before .before))
-    (pair-waits (a .q) (array (c .before .before .before .before .before .before)) (checked (c .before .before .before .before)) (a .j .connection) (a .j .request) (c .before .find .result)
+    (pair-waits (a .q) (array (c .before .before .before .before .before .before)) (checked (c .before .before .before .before))
+    (a .j .connection) (a .j .request) (c .before .find .result)
     (c .before .find .ensures) (c .if3 .taken)))
 
 returns-4 : tie.Need-returns-4
 returns-4 c =
     let a = c .before .before .before .before .before .before .before .args in
     sym
-    (added-full (a .q) (a .j) (checked (c .before .before .before .before .before)) (in-time (c .before .before .before)) (new-pair (c .before)) (c .if4 .taken))
+    (added-full (a .q) (a .j) (checked (c .before .before .before .before .before)) (in-time (c .before .before .before))
+    (new-pair (c .before)) (c .if4 .taken))
 
 mul-jobs : tie.Need-mul-jobs
-mul-jobs c = omega (arith, valid (c .before .before .before .before .before .before .before .before .args .q) (checked (c .before .before .before .before .before .before)) .few)
+mul-jobs c = omega (arith, few (c .before .before .before .before .before .before))
 
 array-set-from-jobs : tie.Need-array-set-from-jobs
-array-set-from-jobs c = omega (arith, valid (c .before .before .before .before .before .before .before .before .args .q) (checked (c .before .before .before .before .before .before)) .few)
+array-set-from-jobs c = omega (arith, few (c .before .before .before .before .before .before))
 
 add-t7 : tie.Need-add-t7
-add-t7 c = omega (arith, valid (c .before .before .before .before .before .before .before .before .args .q) (checked (c .before .before .before .before .before .before)) .few)
+add-t7 c = omega (arith, few (c .before .before .before .before .before .before))
 
 returns-5 : tie.Need-returns-5
 returns-5 c =
     let a = c .before .before .before .before .before .before .before .before .args in
     let ok = checked (c .before .before .before .before .before .before) in
     let early = in-time (c .before .before .before .before) in
-    let few = valid (a .q) ok .few in
+    let most = few (c .before .before .before .before .before .before) in
     let room = array (c .before .before .before .before .before .before .before .before) in
     ap {B = Added} (λ (q : Queue). record { queue = q; error = 0 }) (stored-queue (a .q) (a .j) (omega arith) (omega arith))
     ∙ sym (added-accepted (a .q) (a .j) ok early (new-pair (c .before .before)) (c .before .if4 .left))

@@ -1,5 +1,6 @@
 -- `queue::cancel` meets its contract: each `return` is the answer for the grounds that led there.
 -- Assumes nothing.
+use Prim.Native.Nat.{_≤_}
 use mathlib.Core.Path.{_≡_, sym, ap, _∙_}
 use mathlib.Core.Bool.{false}
 use native.Mathlib.Nat.{zero-add}
@@ -20,6 +21,9 @@ array c = slots (c .args .q .jobs) _ (c .good .0 .1 .1 .0 .1 .0 .1)
 checked : (c : tie.Else1) → invalid (c .before .before .args .q) ≡ false
 checked c = sym (c .before .invalid .ensures) ∙ c .if1 .left
 
+few : (c : tie.Else1) → c .before .before .args .q .count ≤ capacity
+few c = valid (c .before .before .args .q) (checked c) .few
+
 invalid-requires : tie.Need-invalid-requires
 invalid-requires c κs = search needs
 
@@ -34,10 +38,10 @@ returns c =
     (cancelled-invalid (a .q) (a .connection) (a .request) (sym (c .before .before .invalid .ensures) ∙ c .before .if1 .taken))
 
 find-requires : tie.Need-find-requires
-find-requires c κs = (zero≤, valid (c .before .before .args .q) (checked c) .few)
+find-requires c κs = (zero≤, few c)
 
 remove-requires : tie.Need-remove-requires
-remove-requires c κs = (c .if2 .taken, valid (c .before .before .before .before .args .q) (checked (c .before .before)) .few)
+remove-requires c κs = (c .if2 .taken, few (c .before .before))
 
 returns-2 : tie.Need-returns-2
 returns-2 c =
@@ -47,7 +51,8 @@ returns-2 c =
     ∙ ap (removedAt (a .q)) (found .ensures ∙ zero-add _)
     ∙ sym
     (cancelled-named (a .q) (a .connection) (a .request) (checked (c .before .before .before))
-    (pair-waits (a .q) (array (c .before .before .before .before .before)) (checked (c .before .before .before)) (a .connection) (a .request) (found .result) (found .ensures)
+    (pair-waits (a .q) (array (c .before .before .before .before .before)) (checked (c .before .before .before))
+    (a .connection) (a .request) (found .result) (found .ensures)
     (c .before .if2 .taken)))
 
 fail-requires-2 : tie.Need-fail-requires-2
@@ -60,7 +65,8 @@ returns-3 c =
     c .fail2 .ensures
     ∙ sym
     (cancelled-absent (a .q) (a .connection) (a .request) (checked (c .before .before .before))
-    (pair-absent (a .q) (array (c .before .before .before .before .before)) (checked (c .before .before .before)) (a .connection) (a .request) (found .result) (found .ensures)
+    (pair-absent (a .q) (array (c .before .before .before .before .before)) (checked (c .before .before .before))
+    (a .connection) (a .request) (found .result) (found .ensures)
     (c .before .if2 .left)))
 
 pub cancel-spec : {M : Type 1} → statement M

@@ -36,7 +36,11 @@ fail-requires-2 : tie.Need-fail-requires-2
 fail-requires-2 c κs = search needs
 
 returns-2 : tie.Need-returns-2
-returns-2 c = c .fail2 .ensures ∙ sym (taken-empty (c .before .before .before .before .before .args .q) (checked (c .before .before .before)) (c .before .if2 .taken))
+returns-2 c =
+    c .fail2 .ensures
+    ∙ sym
+    (taken-empty (c .before .before .before .before .before .args .q) (checked (c .before .before .before))
+    (c .before .if2 .taken))
 
 earliest-requires : tie.Need-earliest-requires
 earliest-requires c κs = (checked (c .before .before), omega arith)

@@ -17,8 +17,10 @@ use ghost.Atoms.{Atoms, sem}
 use contract.Monad.{Fun, fact}
 use contract.Running.{givenOf, tables, tablesOf}
 use sound.WpLaws.{FmC, fmOf}
-use types.Kit.{Given, Item, ‵, ⋆, _⊛_, _$_, _∵_, !, qed, by, move, keep, drop, split, join, fsplit, fsplit3, fjoin, feqI, suffices, frame, done}
-use types.Run.{look, init, stop, hop, from, load, of-opd, unit-lit, no-more, assigns, land, returns, enter, alloc1, alloc0, params1, pass1, pass0, free0}
+use types.Kit.{Given, Item, ‵, ⋆, _⊛_, _$_, _∵_, !, qed, by, move, keep, drop, split, join, fsplit, fsplit3, fjoin, feqI, suffices, frame}
+use types.Kit.{done}
+use types.Run.{look, init, stop, hop, from, load, of-opd, unit-lit, no-more, assigns, land, returns, enter, alloc1, alloc0, params1, pass1}
+use types.Run.{pass0, free0}
 use denote.RattleType.{owns}
 use denote.Ref.{RefT, MutRef, ptr-vals, mut-tells}
 use denote.Signature.{plain}
@@ -63,7 +65,9 @@ module _ {M : Type 1} (𝓤 : URA M) (H : Heap 𝓤) (A : Atoms 𝓤) (mem : Mem
   told : (r : Queue) → ent 𝓤 (ensures r) (fact 𝓤 (r ≡ emptyQueue))
   told r = exE 𝓤 _ (λ ws. snd∗ 𝓤 (sem 𝓤 H A (lasts empty.ended tt tt ws)) (fact 𝓤 (r ≡ emptyQueue)))
 
-module _ {M : Type 1} (𝓤 : URA M) (H : Heap 𝓤) (A : Atoms 𝓤) (W : Given 𝓤 H A) (mem : Memory → SProp 𝓤) (run : Routine → Fun 𝓤) (κ : Lft) (q : Share) (b o : ℕ) (γ : GName) (h : Queue) where
+module _
+    {M : Type 1} (𝓤 : URA M) (H : Heap 𝓤) (A : Atoms 𝓤) (W : Given 𝓤 H A) (mem : Memory → SProp 𝓤) (run : Routine → Fun 𝓤) (κ : Lft)
+    (q : Share) (b o : ℕ) (γ : GName) (h : Queue) where
   abbrev x : RefT Queue × Unit {0}
   x = (record { ptr = (b, o); name = γ; now = h }, tt)
 
@@ -79,17 +83,21 @@ module _ {M : Type 1} (𝓤 : URA M) (H : Heap 𝓤) (A : Atoms 𝓤) (W : Given
 
   exits : (r : Queue) → r ≡ emptyQueue → ent 𝓤 (⋆ 𝓤 H A (Left r)) (Post vunit)
   exits r e =
-      qed W (Left r) ∵ suffices ! _ (ends-at 𝓤 H A f.ended stayed (f.clauses 𝓤 H A mem run) W (((κ, tt), (q, tt), tt, x, at), tt) vunit tt (r, tt) (tt, tt)) $
-      says ! e $ nothing ! $ move ! (3 ∷ 0 ∷ []) $ join ! $ frame ! $ nothing ! $ move ! (1 ∷ 2 ∷ []) $ hands-back ! b o $ fjoin ! $ frame ! $ feqI ! (List Val) (vunit ∷ []) (vunit ∷ []) refl $ done !
+      qed W (Left r) ∵ suffices ! _ (ends-at 𝓤 H A f.ended stayed (f.clauses 𝓤 H A mem run) W (((κ, tt), (q, tt), tt, x, at), tt) vunit tt
+      (r, tt) (tt, tt)) $
+      says ! e $ nothing ! $ move ! (3 ∷ 0 ∷ []) $ join ! $ frame ! $ nothing ! $ move ! (1 ∷ 2 ∷ []) $ hands-back ! b o $ fjoin ! $
+      frame ! $ feqI ! (List Val) (vunit ∷ []) (vunit ∷ []) refl $ done !
 
   module _ (C : Calls 𝓤 H) (Λ : Loops 𝓤 H) (fm : FmC 𝓤 H (W .laws) C) (known : Triple 𝓤 (C #queue·empty) (Empty 𝓤 H A mem run)) where
     walk : ent 𝓤 (onEntry 𝓤 H A f.signature (κ, tt) (q, tt) x at) (WpFn 𝓤 H C Λ code.function (vptr b o ∷ []) Post)
     walk =
-        qed W ((‵ (flft κ q) ⊛ ‵ ftrue) ∷ ‵ (owns (MutRef (named 0) κ (row (queue .type)) ∷ []) x at) ∷ []) ∵ split ! $ move ! (2 ∷ []) $ fsplit ! $ fsplit3 ! $ drop ! $ keep ! (0 ∷ 1 ∷ 3 ∷ []) $
+        qed W ((‵ (flft κ q) ⊛ ‵ ftrue) ∷ ‵ (owns (MutRef (named 0) κ (row (queue .type)) ∷ []) x at) ∷ []) ∵ split ! $ move ! (2 ∷ []) $
+        fsplit ! $ fsplit3 ! $ drop ! $ keep ! (0 ∷ 1 ∷ 3 ∷ []) $
         enter ! C Λ code.function (vptr b o ∷ []) _ $
         alloc1 ! (λ l₀. alloc1 ! (λ l₁. alloc1 ! (λ l₂. alloc0 ! $ params1 ! $ pass1 ! (init ! 2 refl (tt, tt)) $ pass0 ! $
         -- [_2; …; _1; …; _0; …; the queue, lent: 3]
-        calls-plain ! fm (Empty 𝓤 H A mem run) known (given 𝓤 H A mem run) (asked 𝓤 H A mem run W) queue (λ r. r ≡ emptyQueue) (ensures 𝓤 H A mem run) (λ v. id⊢ 𝓤 _) (told 𝓤 H A mem run) (no-more !) (λ r e is.
+        calls-plain ! fm (Empty 𝓤 H A mem run) known (given 𝓤 H A mem run) (asked 𝓤 H A mem run W) queue (λ r. r ≡ emptyQueue)
+        (ensures 𝓤 H A mem run) (λ v. id⊢ 𝓤 _) (told 𝓤 H A mem run) (no-more !) (λ r e is.
         land ! (from ! (stop !)) (init ! 0 refl (typed W queue r is)) $ move ! (6 ∷ 7 ∷ 8 ∷ []) $
         -- [the queue, lent: 3; _2; …; _1; …; _0; …]
         replaces ! queue h r is (of-opd ! (load ! (from ! (stop !)) (look ! 4 refl))) (from ! (hop ! (look ! 6 refl) (stop !))) $
@@ -97,9 +105,12 @@ module _ {M : Type 1} (𝓤 : URA M) (H : Heap 𝓤) (A : Atoms 𝓤) (W : Given
         returns ! (look ! 7 refl) $ move ! (7 ∷ 8 ∷ 5 ∷ 6 ∷ 3 ∷ 4 ∷ []) $ leaves ! $ leaves ! $ leaves ! $ free0 ! $ by ! (exits r e)))))
 
 module _ {M : Type 1} (𝓤 : URA M) (H : Heap 𝓤) (A : Atoms 𝓤) (W : Given 𝓤 H A) (mem : Memory → SProp 𝓤) (run : Routine → Fun 𝓤) where
-  walks : (C : Calls 𝓤 H) (Λ : Loops 𝓤 H) → FmC 𝓤 H (W .laws) C → Triple 𝓤 (C #queue·empty) (Empty 𝓤 H A mem run) → Walks 𝓤 H A f.ended stayed (WpFn 𝓤 H C Λ code.function) (f.clauses 𝓤 H A mem run)
+  walks :
+      (C : Calls 𝓤 H) (Λ : Loops 𝓤 H) → FmC 𝓤 H (W .laws) C → Triple 𝓤 (C #queue·empty) (Empty 𝓤 H A mem run)
+      → Walks 𝓤 H A f.ended stayed (WpFn 𝓤 H C Λ code.function) (f.clauses 𝓤 H A mem run)
   walks C Λ fm known =
-      walked 𝓤 H A f.ended stayed (f.clauses 𝓤 H A mem run) (WpFn 𝓤 H C Λ code.function) (λ κs. (ptr-vals, tt)) (λ κs. (mut-tells (named 0) (κs .0) (row (queue .type)), tt))
+      walked 𝓤 H A f.ended stayed (f.clauses 𝓤 H A mem run) (WpFn 𝓤 H C Λ code.function) (λ κs. (ptr-vals, tt))
+      (λ κs. (mut-tells (named 0) (κs .0) (row (queue .type)), tt))
       (λ κs qs bounds a _ are. via 𝓤 _ (fst∗ 𝓤 _ (emp 𝓤))
       (walk 𝓤 H A W mem run (κs .0) (qs .0) (a .0 .ptr .0) (a .0 .ptr .1) (a .0 .name) (a .0 .now) C Λ fm known))
 
@@ -109,6 +120,9 @@ module _ {M : Type 1} (𝓤 : URA M) (H : Heap 𝓤) (A : Atoms 𝓤) (W : Given
 pub trpc-queue-init-spec : {M : Type 1} → stated.statement M
 unfolding code.routine tablesOf
 trpc-queue-init-spec 𝓤 H 𝓜 𝓖 𝓡 =
-    concludes 𝓤 H 𝓜 𝓖 𝓡 f.ended (f.clauses 𝓤 H (𝓖 .A) (𝓜 .mem) (𝓡 .run)) stayed (goes 𝓤 H (𝓖 .A) (givenOf 𝓤 H 𝓜 𝓖) (𝓜 .mem) (𝓡 .run)) code.env #in-place·init code.function (code.unfolded 𝓤 H 𝓜 𝓡)
-    (walks 𝓤 H (𝓖 .A) (givenOf 𝓤 H 𝓜 𝓖) (𝓜 .mem) (𝓡 .run) (tables 𝓤 H 𝓜 𝓡 code.env .C) (tables 𝓤 H 𝓜 𝓡 code.env .Λ) (fmOf 𝓤 H (givenOf 𝓤 H 𝓜 𝓖 .laws) (tablesOf 𝓤 H 𝓜 (tables 𝓤 H 𝓜 𝓡 code.env)))
-    (cited 𝓤 H (Empty 𝓤 H (𝓖 .A) (𝓜 .mem) (𝓡 .run)) 𝓜 𝓡 code.env #queue·empty empty-def.routine code.calls-queue·empty (empty-thm.met 𝓤 H 𝓜 𝓖 𝓡)))
+    concludes 𝓤 H 𝓜 𝓖 𝓡 f.ended (f.clauses 𝓤 H (𝓖 .A) (𝓜 .mem) (𝓡 .run)) stayed
+    (goes 𝓤 H (𝓖 .A) (givenOf 𝓤 H 𝓜 𝓖) (𝓜 .mem) (𝓡 .run)) code.env #in-place·init code.function (code.unfolded 𝓤 H 𝓜 𝓡)
+    (walks 𝓤 H (𝓖 .A) (givenOf 𝓤 H 𝓜 𝓖) (𝓜 .mem) (𝓡 .run) (tables 𝓤 H 𝓜 𝓡 code.env .C) (tables 𝓤 H 𝓜 𝓡 code.env .Λ)
+    (fmOf 𝓤 H (givenOf 𝓤 H 𝓜 𝓖 .laws) (tablesOf 𝓤 H 𝓜 (tables 𝓤 H 𝓜 𝓡 code.env)))
+    (cited 𝓤 H (Empty 𝓤 H (𝓖 .A) (𝓜 .mem) (𝓡 .run)) 𝓜 𝓡 code.env #queue·empty empty-def.routine code.calls-queue·empty
+    (empty-thm.met 𝓤 H 𝓜 𝓖 𝓡)))

@@ -18,7 +18,8 @@ use contract.Monad.{Fun, fact}
 use contract.Running.{givenOf, tables, tablesOf}
 use sound.WpLaws.{FmC, fmOf}
 use types.Kit.{Given, Item, ‵, ⋆, _⊛_, _$_, _∵_, !, qed, by, move, keep, drop, split3, join, fsplit, fsplit3, fjoin, suffices, frame, done}
-use types.Run.{look, look-raw, init, stop, hop, fld, from, load, of-opd, and-then, no-more, assigns, land, returns, enter, alloc1, alloc0, params1, pass1, pass0, free0}
+use types.Run.{look, look-raw, init, stop, hop, fld, from, load, of-opd, and-then, no-more, assigns, land, returns, enter, alloc1, alloc0}
+use types.Run.{params1, pass1, pass0, free0}
 use types.Part.{whole, sub, look-in}
 use denote.RattleType.{owns}
 use denote.Laws.{Is}
@@ -42,7 +43,8 @@ use Rattle.queue.proofs.take as take
 use Rattle.queue.proofs.take.Symbol as take-def
 use Rattle.queue.proofs.take.Symbol.{name as #queue·take}
 use Rattle.queue.proofs.take.Met as take-thm
-use Rattle.queue_in_place.proofs.Lent.{val, Fits, Lent, typed, made, copies, replaces, calls-plain, hands-back, leaves, concludes}
+use Rattle.queue_in_place.proofs.Lent.{val, Fits, Lent, typed, made, copies, replaces, calls-plain, of-local, hands-back, leaves}
+use Rattle.queue_in_place.proofs.Lent.{concludes}
 use Rattle.queue_in_place.proofs.Structs.{job, queue, removed, removed-parts}
 use Rattle.queue_in_place.proofs.trpc_queue_take as f
 use Rattle.queue_in_place.proofs.trpc_queue_take.Key.{name as #in-place·take}
@@ -69,7 +71,9 @@ module _ {M : Type 1} (𝓤 : URA M) (H : Heap 𝓤) (A : Atoms 𝓤) (mem : Mem
   told : (h : Queue) (r : Removed) → ent 𝓤 (ensures h r) (fact 𝓤 (r ≡ taken h))
   told h r = exE 𝓤 _ (λ ws. snd∗ 𝓤 (sem 𝓤 H A (lasts take.ended tt (h, tt) ws)) (fact 𝓤 (r ≡ taken h)))
 
-module _ {M : Type 1} (𝓤 : URA M) (H : Heap 𝓤) (A : Atoms 𝓤) (W : Given 𝓤 H A) (mem : Memory → SProp 𝓤) (run : Routine → Fun 𝓤) (κ ι : Lft) (q p : Share) (b o c d : ℕ) (γ δ : GName) (h : Queue) (j : Job) where
+module _
+    {M : Type 1} (𝓤 : URA M) (H : Heap 𝓤) (A : Atoms 𝓤) (W : Given 𝓤 H A) (mem : Memory → SProp 𝓤) (run : Routine → Fun 𝓤) (κ ι : Lft)
+    (q p : Share) (b o c d : ℕ) (γ δ : GName) (h : Queue) (j : Job) where
   abbrev x : RefT Queue × (RefT Job × Unit {0})
   x = (record { ptr = (b, o); name = γ; now = h }, (record { ptr = (c, d); name = δ; now = j }, tt))
 
@@ -85,7 +89,8 @@ module _ {M : Type 1} (𝓤 : URA M) (H : Heap 𝓤) (A : Atoms 𝓤) (W : Given
 
   exits : (r : Removed) → r ≡ taken h → Is u32 (r .error) (vint w32 (r .error) ∷ []) → ent 𝓤 (⋆ 𝓤 H A (Left r)) (Post (vint w32 (r .error)))
   exits r e is =
-      qed W (Left r) ∵ suffices ! _ (ends-at 𝓤 H A f.ended stayed (f.clauses 𝓤 H A mem run) W (((κ, (ι, tt)), (q, (p, tt)), tt, x, at), tt) (vint w32 (r .error)) (r .error) (r .queue, (r .job, tt)) (tt, (tt, tt))) $
+      qed W (Left r) ∵ suffices ! _ (ends-at 𝓤 H A f.ended stayed (f.clauses 𝓤 H A mem run) W (((κ, (ι, tt)), (q, (p, tt)), tt, x, at), tt)
+      (vint w32 (r .error)) (r .error) (r .queue, (r .job, tt)) (tt, (tt, tt))) $
       says ! e $ nothing ! $ move ! (3 ∷ 0 ∷ []) $ join ! $ move ! (5 ∷ 0 ∷ []) $ join ! $ frame ! $
       -- [the job's borrow: 2; the queue's: 2]
       nothing ! $ move ! (1 ∷ 2 ∷ []) $ hands-back ! c d $ fjoin ! $ move ! (1 ∷ 2 ∷ []) $ hands-back ! b o $ fjoin ! $ frame ! $
@@ -94,27 +99,43 @@ module _ {M : Type 1} (𝓤 : URA M) (H : Heap 𝓤) (A : Atoms 𝓤) (W : Given
   module _ (C : Calls 𝓤 H) (Λ : Loops 𝓤 H) (fm : FmC 𝓤 H (W .laws) C) (known : Triple 𝓤 (C #queue·take) (Take 𝓤 H A mem run)) where
     walk : ent 𝓤 (onEntry 𝓤 H A f.signature (κ, (ι, tt)) (q, (p, tt)) x at) (WpFn 𝓤 H C Λ code.function (vptr b o ∷ vptr c d ∷ []) Post)
     walk =
-        qed W ((‵ (flft κ q) ⊛ ‵ (flft ι p) ⊛ ‵ ftrue) ∷ ‵ (owns (MutRef (named 0) κ (row (queue .type)) ∷ MutRef (named 1) ι (row (job .type)) ∷ []) x at) ∷ []) ∵
-        split3 ! $ move ! (3 ∷ []) $ fsplit ! $ fsplit3 ! $ drop ! $ move ! (2 ∷ []) $ fsplit ! $ fsplit3 ! $ drop ! $ keep ! (3 ∷ 4 ∷ 5 ∷ 0 ∷ 1 ∷ 6 ∷ []) $
+        qed W ((‵ (flft κ q) ⊛ ‵ (flft ι p) ⊛ ‵ ftrue) ∷
+        ‵ (owns (MutRef (named 0) κ (row (queue .type)) ∷ MutRef (named 1) ι (row (job .type)) ∷ []) x at) ∷ []) ∵
+        split3 ! $ move ! (3 ∷ []) $ fsplit ! $ fsplit3 ! $ drop ! $ move ! (2 ∷ []) $ fsplit ! $ fsplit3 ! $ drop ! $
+        keep ! (3 ∷ 4 ∷ 5 ∷ 0 ∷ 1 ∷ 6 ∷ []) $
         enter ! C Λ code.function (vptr b o ∷ vptr c d ∷ []) _ $
-        alloc1 ! (λ l₀. alloc1 ! (λ l₁. alloc1 ! (λ l₂. alloc1 ! (λ l₃. alloc1 ! (λ l₄. alloc0 ! $ params1 ! $ pass1 ! (init ! 6 refl (tt, tt)) $ pass1 ! (init ! 4 refl (tt, tt)) $ pass0 ! $ move ! (10 ∷ 11 ∷ 12 ∷ []) $
+        alloc1 ! (λ l₀. alloc1 ! (λ l₁. alloc1 ! (λ l₂. alloc1 ! (λ l₃. alloc1 ! (λ l₄.
+        alloc0 ! $ params1 ! $ pass1 ! (init ! 6 refl (tt, tt)) $
+        pass1 ! (init ! 4 refl (tt, tt)) $ pass0 ! $ move ! (10 ∷ 11 ∷ 12 ∷ []) $
         -- [the queue, lent: 3; _4; …; _3; …; _2; …; _1; …; _0; …; the job, lent: 3]
-        copies ! queue h (of-opd ! (load ! (from ! (hop ! (look ! 10 refl) (stop !))) (look-raw ! 0 refl))) (from ! (stop !)) (λ was. init ! 4 refl (typed W queue h was)) (λ was.
-        calls-plain ! fm (Take 𝓤 H A mem run) known (given 𝓤 H A mem run h) (asked 𝓤 H A mem run W h was) removed (λ r. r ≡ taken h) (ensures 𝓤 H A mem run h) (λ v. id⊢ 𝓤 _) (told 𝓤 H A mem run h)
-        (and-then ! (load ! (from ! (stop !)) (look ! 4 refl)) (no-more !)) (λ r e is.
+        copies ! queue h (of-opd ! (load ! (from ! (hop ! (look ! 10 refl) (stop !))) (look-raw ! 0 refl))) (from ! (stop !))
+        (λ was. init ! 4 refl (typed W queue h was)) (λ was.
+        calls-plain ! fm (Take 𝓤 H A mem run) known (given 𝓤 H A mem run h) (asked 𝓤 H A mem run W h was) removed (λ r. r ≡ taken h)
+        (ensures 𝓤 H A mem run h) (λ v. id⊢ 𝓤 _) (told 𝓤 H A mem run h)
+        (and-then ! (of-local ! 4 5 refl) (no-more !)) (λ r e is.
         land ! (from ! (stop !)) (init ! 5 refl (typed W removed r is)) $
-        replaces ! queue h (r .queue) (removed-parts r is .0) (of-opd ! (load ! (from ! (fld ! refl (stop !))) (look-in ! 6 (sub ! 0 refl (whole !))))) (from ! (hop ! (look ! 10 refl) (stop !))) $ move ! (13 ∷ 14 ∷ 15 ∷ []) $
+        replaces ! queue h (r .queue) (removed-parts r is .0)
+        (of-opd ! (load ! (from ! (fld ! refl (stop !))) (look-in ! 6 (sub ! 0 refl (whole !)))))
+        (from ! (hop ! (look ! 10 refl) (stop !))) $ move ! (13 ∷ 14 ∷ 15 ∷ []) $
         -- [the job, lent: 3; the queue, lent: 3; _4; …; _3; …; _2; …; _1; …; _0; …]
-        replaces ! job j (r .job) (removed-parts r is .1) (of-opd ! (load ! (from ! (fld ! refl (stop !))) (look-in ! 9 (sub ! 1 refl (whole !))))) (from ! (hop ! (look ! 11 refl) (stop !))) $
-        assigns ! (of-opd ! (load ! (from ! (fld ! refl (stop !))) (look-in ! 8 (sub ! 2 refl (whole !))))) (from ! (stop !)) (init ! 14 refl (tt, record { fits = removed-parts r is .2 .1 })) $
-        returns ! (look ! 14 refl) $ move ! (14 ∷ 15 ∷ 12 ∷ 13 ∷ 10 ∷ 11 ∷ 8 ∷ 9 ∷ 6 ∷ 7 ∷ []) $ leaves ! $ leaves ! $ leaves ! $ leaves ! $ leaves ! $ free0 ! $ by ! (exits r e (removed-parts r is .2)))))))))
+        replaces ! job j (r .job) (removed-parts r is .1)
+        (of-opd ! (load ! (from ! (fld ! refl (stop !))) (look-in ! 9 (sub ! 1 refl (whole !)))))
+        (from ! (hop ! (look ! 11 refl) (stop !))) $
+        assigns ! (of-opd ! (load ! (from ! (fld ! refl (stop !))) (look-in ! 8 (sub ! 2 refl (whole !))))) (from ! (stop !))
+        (init ! 14 refl (tt, record { fits = removed-parts r is .2 .1 })) $
+        returns ! (look ! 14 refl) $ move ! (14 ∷ 15 ∷ 12 ∷ 13 ∷ 10 ∷ 11 ∷ 8 ∷ 9 ∷ 6 ∷ 7 ∷ []) $ leaves ! $ leaves ! $ leaves ! $ leaves ! $
+        leaves ! $ free0 ! $ by ! (exits r e (removed-parts r is .2)))))))))
 
 module _ {M : Type 1} (𝓤 : URA M) (H : Heap 𝓤) (A : Atoms 𝓤) (W : Given 𝓤 H A) (mem : Memory → SProp 𝓤) (run : Routine → Fun 𝓤) where
-  walks : (C : Calls 𝓤 H) (Λ : Loops 𝓤 H) → FmC 𝓤 H (W .laws) C → Triple 𝓤 (C #queue·take) (Take 𝓤 H A mem run) → Walks 𝓤 H A f.ended stayed (WpFn 𝓤 H C Λ code.function) (f.clauses 𝓤 H A mem run)
+  walks :
+      (C : Calls 𝓤 H) (Λ : Loops 𝓤 H) → FmC 𝓤 H (W .laws) C → Triple 𝓤 (C #queue·take) (Take 𝓤 H A mem run)
+      → Walks 𝓤 H A f.ended stayed (WpFn 𝓤 H C Λ code.function) (f.clauses 𝓤 H A mem run)
   walks C Λ fm known =
-      walked 𝓤 H A f.ended stayed (f.clauses 𝓤 H A mem run) (WpFn 𝓤 H C Λ code.function) (λ κs. (ptr-vals, (ptr-vals, tt))) (λ κs. (mut-tells (named 0) (κs .0) (row (queue .type)), (mut-tells (named 1) (κs .1 .0) (row (job .type)), tt)))
+      walked 𝓤 H A f.ended stayed (f.clauses 𝓤 H A mem run) (WpFn 𝓤 H C Λ code.function) (λ κs. (ptr-vals, (ptr-vals, tt)))
+      (λ κs. (mut-tells (named 0) (κs .0) (row (queue .type)), (mut-tells (named 1) (κs .1 .0) (row (job .type)), tt)))
       (λ κs qs bounds a _ are. via 𝓤 _ (fst∗ 𝓤 _ (emp 𝓤))
-      (walk 𝓤 H A W mem run (κs .0) (κs .1 .0) (qs .0) (qs .1 .0) (a .0 .ptr .0) (a .0 .ptr .1) (a .1 .0 .ptr .0) (a .1 .0 .ptr .1) (a .0 .name) (a .1 .0 .name) (a .0 .now) (a .1 .0 .now) C Λ fm known))
+      (walk 𝓤 H A W mem run (κs .0) (κs .1 .0) (qs .0) (qs .1 .0) (a .0 .ptr .0) (a .0 .ptr .1) (a .1 .0 .ptr .0) (a .1 .0 .ptr .1)
+      (a .0 .name) (a .1 .0 .name) (a .0 .now) (a .1 .0 .now) C Λ fm known))
 
   goes : AllGo 𝓤 H A W 2 (f.signature .params) (f.ended .kept) stayed
   goes = (goes-ref 𝓤 H A W 2 0 tt (plain (λ _. row (queue .type))), (goes-ref 𝓤 H A W 2 1 tt (plain (λ _. row (job .type))), tt))
@@ -122,6 +143,9 @@ module _ {M : Type 1} (𝓤 : URA M) (H : Heap 𝓤) (A : Atoms 𝓤) (W : Given
 pub trpc-queue-take-spec : {M : Type 1} → stated.statement M
 unfolding code.routine tablesOf
 trpc-queue-take-spec 𝓤 H 𝓜 𝓖 𝓡 =
-    concludes 𝓤 H 𝓜 𝓖 𝓡 f.ended (f.clauses 𝓤 H (𝓖 .A) (𝓜 .mem) (𝓡 .run)) stayed (goes 𝓤 H (𝓖 .A) (givenOf 𝓤 H 𝓜 𝓖) (𝓜 .mem) (𝓡 .run)) code.env #in-place·take code.function (code.unfolded 𝓤 H 𝓜 𝓡)
-    (walks 𝓤 H (𝓖 .A) (givenOf 𝓤 H 𝓜 𝓖) (𝓜 .mem) (𝓡 .run) (tables 𝓤 H 𝓜 𝓡 code.env .C) (tables 𝓤 H 𝓜 𝓡 code.env .Λ) (fmOf 𝓤 H (givenOf 𝓤 H 𝓜 𝓖 .laws) (tablesOf 𝓤 H 𝓜 (tables 𝓤 H 𝓜 𝓡 code.env)))
-    (cited 𝓤 H (Take 𝓤 H (𝓖 .A) (𝓜 .mem) (𝓡 .run)) 𝓜 𝓡 code.env #queue·take take-def.routine code.calls-queue·take (take-thm.met 𝓤 H 𝓜 𝓖 𝓡)))
+    concludes 𝓤 H 𝓜 𝓖 𝓡 f.ended (f.clauses 𝓤 H (𝓖 .A) (𝓜 .mem) (𝓡 .run)) stayed
+    (goes 𝓤 H (𝓖 .A) (givenOf 𝓤 H 𝓜 𝓖) (𝓜 .mem) (𝓡 .run)) code.env #in-place·take code.function (code.unfolded 𝓤 H 𝓜 𝓡)
+    (walks 𝓤 H (𝓖 .A) (givenOf 𝓤 H 𝓜 𝓖) (𝓜 .mem) (𝓡 .run) (tables 𝓤 H 𝓜 𝓡 code.env .C) (tables 𝓤 H 𝓜 𝓡 code.env .Λ)
+    (fmOf 𝓤 H (givenOf 𝓤 H 𝓜 𝓖 .laws) (tablesOf 𝓤 H 𝓜 (tables 𝓤 H 𝓜 𝓡 code.env)))
+    (cited 𝓤 H (Take 𝓤 H (𝓖 .A) (𝓜 .mem) (𝓡 .run)) 𝓜 𝓡 code.env #queue·take take-def.routine code.calls-queue·take
+    (take-thm.met 𝓤 H 𝓜 𝓖 𝓡)))

@@ -5,8 +5,8 @@ use Rattle.bekurapi.proofs.NumberLaws.{to-numbers}
 use Rattle.bekurapi.proofs.numbers.numbers_of.Statement.{statement}
 use Rattle.bekurapi.proofs.numbers.numbers_of.Tie as tie
 
-content-of-requires : tie.Need-content-of-requires
-content-of-requires c κs = search needs
+content-in-requires : tie.Need-content-in-requires
+content-in-requires c κs = search needs
 
 array-write-numbers : tie.Need-array-write-numbers
 array-write-numbers c = search needs
@@ -38,14 +38,14 @@ with-fields-requires c κs = search needs
 returns : tie.Need-returns
 returns c =
     let at-content = c .before .before .before .before .before in
-    let content = at-content .content-of .ensures in
-    c .with-fields .ensures ∙ to-numbers (at-content .before .args .reading) (content .1) (content .3) (content .2)
+    let content = at-content .content-in .ensures in
+    c .with-fields .ensures ∙ to-numbers (at-content .before .args .reading) (content .0) (content .2) (content .1)
 
 pub numbers-of-spec : {M : Type 1} → statement M
 numbers-of-spec =
     tie.close
     (tie.spec
-    content-of-requires
+    content-in-requires
     array-write-numbers
     array-write-numbers-2
     array-write-numbers-3

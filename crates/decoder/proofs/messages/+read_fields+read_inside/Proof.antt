@@ -7,7 +7,7 @@ use borrow.Author.Needs.{needs}
 use borrow.Fn.Kinds.{In}
 use borrow.Fn.PlainCycle.{Measures, is, falls, and}
 use Rattle.decoder.proofs.Targets.{target-is, target-fits}
-use Rattle.decoder.proofs.Walk.{varint-bounds, skipped-bounds, bytes-bounds, fixed64, group, fixed32}
+use Rattle.decoder.proofs.Walk.{varint-bounds, skipped-bounds, bytes-bounds, bytes-place, fixed64, group, fixed32}
 use Rattle.decoder.proofs.RowLaws.{same-long, held}
 use Rattle.decoder.proofs.StateLaws.{mark-held, inside-bytes, inside-number, inside-unknown, inside-entry, inside-message}
 use Rattle.decoder.proofs.FieldLoop.{Reading, reading, reading-end, reading-error, reading-varint, reading-skipped, reading-taken, reading-refused}
@@ -21,7 +21,7 @@ use Rattle.decoder.proofs.messages.add_entry.Reads as add-entry-reads
 use Rattle.decoder.proofs.messages.set_bytes.Reads as set-bytes-reads
 use Rattle.decoder.proofs.messages.set_number.Reads as set-number-reads
 use Rattle.decoder.proofs.fields.field_target.Reads as field-target-reads
-use Rattle.wire.proofs.next_field.Reads as next-field-reads
+use Rattle.decoder.proofs.walking.step_in.Reads as step-in-reads
 use Rattle.decoder.proofs.messages.+read_fields+read_inside.{statement}
 use Rattle.decoder.proofs.messages.+read_fields+read_inside.Tie.{close}
 
@@ -53,8 +53,8 @@ module _ (t : ℕ) where
 
   abbrev read-fields-calls : read-fields-lts.Claims
   read-fields-calls = (
-    next-field-reads.Asked,
-    next-field-reads.Learnt,
+    step-in-reads.Asked,
+    step-in-reads.Learnt,
     set-number-reads.Asked,
     set-number-reads.Learnt,
     read-inside-below,
@@ -76,8 +76,8 @@ module _ (t : ℕ) where
   read-fields-loop-holds : read-fields-lts.Need-loop-holds read-fields-calls read-fields-at read-fields.Post read-fields-Inv-loop read-fields-μ-loop
   read-fields-loop-holds c = let pre = c .before .before .pre .1 in reading _ _ _ _ _ _ (pre .0) (pre .1) (pre .2) (pre .3)
 
-  read-fields-next-field-requires : read-fields-lts.Need-next-field-requires read-fields-calls read-fields-at read-fields.Post read-fields-Inv-loop read-fields-μ-loop
-  read-fields-next-field-requires c κs = search needs
+  read-fields-step-in-requires : read-fields-lts.Need-step-in-requires read-fields-calls read-fields-at read-fields.Post read-fields-Inv-loop read-fields-μ-loop
+  read-fields-step-in-requires c κs = c .loop .inv .walk .long
 
   read-fields-enum-told : read-fields-lts.Need-enum-told read-fields-calls read-fields-at read-fields.Post read-fields-Inv-loop read-fields-μ-loop
   read-fields-enum-told c = search needs
@@ -93,125 +93,119 @@ module _ (t : ℕ) where
 
   read-fields-loop-less : read-fields-lts.Need-loop-less read-fields-calls read-fields-at read-fields.Post read-fields-Inv-loop read-fields-μ-loop
   read-fields-loop-less c =
-      let at-field = c .before .before .before .before in
-      let inv = at-field .before .loop .inv in
-      let is-f = at-field .next-field .ensures in
-      omega (arith, varint-bounds _ _ _ _ _ _ _ (inv .walk) _ is-f (c .before .before .f2 .given .1))
+      let at-step = c .before .before .before .before in
+      let inv = at-step .before .loop .inv in
+      let is-s = at-step .step-in .ensures in
+      omega (arith, varint-bounds _ _ _ _ _ _ _ (inv .walk) _ is-s (c .before .before .f2 .given .1))
 
   read-fields-loop-again : read-fields-lts.Need-loop-again read-fields-calls read-fields-at read-fields.Post read-fields-Inv-loop read-fields-μ-loop
   read-fields-loop-again c =
-      let at-field = c .before .before .before .before in
-      let inv = at-field .before .loop .inv in
-      let is-f = at-field .next-field .ensures in
-      let moves = varint-bounds _ _ _ _ _ _ _ (inv .walk) _ is-f (c .before .before .f2 .given .1) in
-      reading-varint _ _ _ _ _ _ _ _ _ inv _ is-f _ _ _ (c .before .before .f2 .given .1) (moves .0) _ (c .set-number .ensures)
+      let at-step = c .before .before .before .before in
+      let inv = at-step .before .loop .inv in
+      let is-s = at-step .step-in .ensures in
+      let moves = varint-bounds _ _ _ _ _ _ _ (inv .walk) _ is-s (c .before .before .f2 .given .1) in
+      reading-varint _ _ _ _ _ _ _ _ _ inv _ is-s _ _ _ (c .before .before .f2 .given .1) (moves .0) _ (c .set-number .ensures)
 
   read-fields-enum-known-f-3 : read-fields-lts.Need-enum-known-f-3 read-fields-calls read-fields-at read-fields.Post read-fields-Inv-loop read-fields-μ-loop
   read-fields-enum-known-f-3 c = search needs
 
   read-fields-read-inside-requires : read-fields-lts.Need-read-inside-requires read-fields-calls read-fields-at read-fields.Post read-fields-Inv-loop read-fields-μ-loop
   read-fields-read-inside-requires c κs =
-      let at-field = c .before .before .before .before in
-      let inv = at-field .before .loop .inv in
-      let is-f = at-field .next-field .ensures in
-      let bounds = bytes-bounds _ _ _ _ _ _ _ (inv .walk) _ is-f _ _ _ (c .before .before .f3 .given .1) in
+      let at-step = c .before .before .before .before in
+      let inv = at-step .before .loop .inv in
+      let is-s = at-step .step-in .ensures in
+      let bounds = bytes-bounds _ _ _ _ _ _ _ (inv .walk) _ is-s _ _ _ (c .before .before .f3 .given .1) in
       (omega (arith, c .before .before .before .before .before .before .before .before .pre .0, inv .from), (omega (arith, inv .walk .long), inv .small, held _ _ _ _ _ (inv .holds)))
-
-  read-fields-add-i : read-fields-lts.Need-add-i read-fields-calls read-fields-at read-fields.Post read-fields-Inv-loop read-fields-μ-loop
-  read-fields-add-i c =
-      let at-field = c .before .before .before .before .before .before .before .before .before .before in
-      let inv = at-field .before .loop .inv in
-      let is-f = at-field .next-field .ensures in
-      omega (arith, inv .small, inv .walk .long, bytes-bounds _ _ _ _ _ _ _ (inv .walk) _ is-f _ _ _ (c .before .before .before .before .before .before .before .before .f3 .given .1))
 
   read-fields-loop-less-2 : read-fields-lts.Need-loop-less-2 read-fields-calls read-fields-at read-fields.Post read-fields-Inv-loop read-fields-μ-loop
   read-fields-loop-less-2 c =
-      let at-field = c .before .before .before .before .before .before .before .before .before .before in
-      let inv = at-field .before .loop .inv in
-      let is-f = at-field .next-field .ensures in
-      omega (arith, bytes-bounds _ _ _ _ _ _ _ (inv .walk) _ is-f _ _ _ (c .before .before .before .before .before .before .before .before .f3 .given .1))
+      let at-step = c .before .before .before .before .before .before .before .before .before .before in
+      let inv = at-step .before .loop .inv in
+      let is-s = at-step .step-in .ensures in
+      let found = c .before .before .before .before .before .before .before .before .f3 .given .1 in
+      omega (arith, bytes-bounds _ _ _ _ _ _ _ (inv .walk) _ is-s _ _ _ found, bytes-place _ _ _ _ _ _ _ (inv .walk) _ is-s _ _ _ found)
 
   read-fields-loop-again-2 : read-fields-lts.Need-loop-again-2 read-fields-calls read-fields-at read-fields.Post read-fields-Inv-loop read-fields-μ-loop
   read-fields-loop-again-2 c =
-      let at-field = c .before .before .before .before .before .before .before .before .before .before in
-      let inv = at-field .before .loop .inv in
-      let is-f = at-field .next-field .ensures in
+      let at-step = c .before .before .before .before .before .before .before .before .before .before in
+      let inv = at-step .before .loop .inv in
+      let is-s = at-step .step-in .ensures in
       let call = c .before .before .before .before .before .read-inside in
-      reading-taken _ _ _ _ _ _ _ _ _ inv _ is-f _ _ _ (c .before .before .before .before .before .before .before .before .f3 .given .1) _ (call .last .1 .1 .1 .1 .1 .1 .0) (call .ensures) (c .before .if1 .left)
+      reading-taken _ _ _ _ _ _ _ _ _ inv _ is-s _ _ _ (c .before .before .before .before .before .before .before .before .f3 .given .1) _ (call .last .1 .1 .1 .1 .1 .1 .0) (call .ensures) (c .before .if1 .left)
 
-  read-fields-enum-known-f-4 : read-fields-lts.Need-enum-known-f-4 read-fields-calls read-fields-at read-fields.Post read-fields-Inv-loop read-fields-μ-loop
-  read-fields-enum-known-f-4 c = search needs
+  read-fields-enum-told-2 : read-fields-lts.Need-enum-told-2 read-fields-calls read-fields-at read-fields.Post read-fields-Inv-loop read-fields-μ-loop
+  read-fields-enum-told-2 c = search needs
 
   read-fields-loop-less-3 : read-fields-lts.Need-loop-less-3 read-fields-calls read-fields-at read-fields.Post read-fields-Inv-loop read-fields-μ-loop
   read-fields-loop-less-3 c =
-      let at-field = c .before .before .before in
-      let inv = at-field .before .loop .inv in
-      let is-f = at-field .next-field .ensures in
-      omega (arith, skipped-bounds _ _ _ _ _ _ _ (inv .walk) _ is-f fixed64 (c .before .f4 .given .1))
+      let at-step = c .before .before in
+      let inv = at-step .before .loop .inv in
+      let is-s = at-step .step-in .ensures in
+      omega (arith, skipped-bounds _ _ _ _ _ _ _ (inv .walk) _ is-s fixed64 (c .enum-told2 .given .1))
 
   read-fields-loop-again-3 : read-fields-lts.Need-loop-again-3 read-fields-calls read-fields-at read-fields.Post read-fields-Inv-loop read-fields-μ-loop
   read-fields-loop-again-3 c =
-      let at-field = c .before .before .before in
-      let inv = at-field .before .loop .inv in
-      let is-f = at-field .next-field .ensures in
-      let moves = skipped-bounds _ _ _ _ _ _ _ (inv .walk) _ is-f fixed64 (c .before .f4 .given .1) in
-      reading-skipped _ _ _ _ _ _ _ _ _ inv _ is-f fixed64 (c .before .f4 .given .1) (moves .0)
+      let at-step = c .before .before in
+      let inv = at-step .before .loop .inv in
+      let is-s = at-step .step-in .ensures in
+      let moves = skipped-bounds _ _ _ _ _ _ _ (inv .walk) _ is-s fixed64 (c .enum-told2 .given .1) in
+      reading-skipped _ _ _ _ _ _ _ _ _ inv _ is-s fixed64 (c .enum-told2 .given .1) (moves .0)
 
-  read-fields-enum-known-f-5 : read-fields-lts.Need-enum-known-f-5 read-fields-calls read-fields-at read-fields.Post read-fields-Inv-loop read-fields-μ-loop
-  read-fields-enum-known-f-5 c = search needs
+  read-fields-enum-told-3 : read-fields-lts.Need-enum-told-3 read-fields-calls read-fields-at read-fields.Post read-fields-Inv-loop read-fields-μ-loop
+  read-fields-enum-told-3 c = search needs
 
   read-fields-loop-less-4 : read-fields-lts.Need-loop-less-4 read-fields-calls read-fields-at read-fields.Post read-fields-Inv-loop read-fields-μ-loop
   read-fields-loop-less-4 c =
-      let at-field = c .before .before .before in
-      let inv = at-field .before .loop .inv in
-      let is-f = at-field .next-field .ensures in
-      omega (arith, skipped-bounds _ _ _ _ _ _ _ (inv .walk) _ is-f group (c .before .f5 .given .1))
+      let at-step = c .before .before in
+      let inv = at-step .before .loop .inv in
+      let is-s = at-step .step-in .ensures in
+      omega (arith, skipped-bounds _ _ _ _ _ _ _ (inv .walk) _ is-s group (c .enum-told3 .given .1))
 
   read-fields-loop-again-4 : read-fields-lts.Need-loop-again-4 read-fields-calls read-fields-at read-fields.Post read-fields-Inv-loop read-fields-μ-loop
   read-fields-loop-again-4 c =
-      let at-field = c .before .before .before in
-      let inv = at-field .before .loop .inv in
-      let is-f = at-field .next-field .ensures in
-      let moves = skipped-bounds _ _ _ _ _ _ _ (inv .walk) _ is-f group (c .before .f5 .given .1) in
-      reading-skipped _ _ _ _ _ _ _ _ _ inv _ is-f group (c .before .f5 .given .1) (moves .0)
+      let at-step = c .before .before in
+      let inv = at-step .before .loop .inv in
+      let is-s = at-step .step-in .ensures in
+      let moves = skipped-bounds _ _ _ _ _ _ _ (inv .walk) _ is-s group (c .enum-told3 .given .1) in
+      reading-skipped _ _ _ _ _ _ _ _ _ inv _ is-s group (c .enum-told3 .given .1) (moves .0)
 
-  read-fields-enum-known-f-6 : read-fields-lts.Need-enum-known-f-6 read-fields-calls read-fields-at read-fields.Post read-fields-Inv-loop read-fields-μ-loop
-  read-fields-enum-known-f-6 c = search needs
+  read-fields-enum-told-4 : read-fields-lts.Need-enum-told-4 read-fields-calls read-fields-at read-fields.Post read-fields-Inv-loop read-fields-μ-loop
+  read-fields-enum-told-4 c = search needs
 
   read-fields-loop-less-5 : read-fields-lts.Need-loop-less-5 read-fields-calls read-fields-at read-fields.Post read-fields-Inv-loop read-fields-μ-loop
   read-fields-loop-less-5 c =
-      let at-field = c .before .before .before in
-      let inv = at-field .before .loop .inv in
-      let is-f = at-field .next-field .ensures in
-      omega (arith, skipped-bounds _ _ _ _ _ _ _ (inv .walk) _ is-f fixed32 (c .before .f6 .given .1))
+      let at-step = c .before .before in
+      let inv = at-step .before .loop .inv in
+      let is-s = at-step .step-in .ensures in
+      omega (arith, skipped-bounds _ _ _ _ _ _ _ (inv .walk) _ is-s fixed32 (c .enum-told4 .given .1))
 
   read-fields-loop-again-5 : read-fields-lts.Need-loop-again-5 read-fields-calls read-fields-at read-fields.Post read-fields-Inv-loop read-fields-μ-loop
   read-fields-loop-again-5 c =
-      let at-field = c .before .before .before in
-      let inv = at-field .before .loop .inv in
-      let is-f = at-field .next-field .ensures in
-      let moves = skipped-bounds _ _ _ _ _ _ _ (inv .walk) _ is-f fixed32 (c .before .f6 .given .1) in
-      reading-skipped _ _ _ _ _ _ _ _ _ inv _ is-f fixed32 (c .before .f6 .given .1) (moves .0)
+      let at-step = c .before .before in
+      let inv = at-step .before .loop .inv in
+      let is-s = at-step .step-in .ensures in
+      let moves = skipped-bounds _ _ _ _ _ _ _ (inv .walk) _ is-s fixed32 (c .enum-told4 .given .1) in
+      reading-skipped _ _ _ _ _ _ _ _ _ inv _ is-s fixed32 (c .enum-told4 .given .1) (moves .0)
 
   read-fields-same-length : read-fields-lts.Need-same-length read-fields-calls read-fields-at read-fields.Post read-fields-Inv-loop read-fields-μ-loop
   read-fields-same-length c = same-long _ _ _ _ _ (c .before .before .before .loop .inv .holds)
 
   read-fields-returns : read-fields-lts.Need-returns read-fields-calls read-fields-at read-fields.Post read-fields-Inv-loop read-fields-μ-loop
   read-fields-returns c =
-      let at-field = c .before .before in
-      let inv = at-field .before .loop .inv in
-      let is-f = at-field .next-field .ensures in
-      reading-end _ _ _ _ _ _ _ _ _ inv _ is-f (c .enum-told .given .1)
+      let at-step = c .before .before in
+      let inv = at-step .before .loop .inv in
+      let is-s = at-step .step-in .ensures in
+      reading-end _ _ _ _ _ _ _ _ _ inv _ is-s (c .enum-told .given .1)
 
   read-fields-same-length-2 : read-fields-lts.Need-same-length-2 read-fields-calls read-fields-at read-fields.Post read-fields-Inv-loop read-fields-μ-loop
   read-fields-same-length-2 c = same-long _ _ _ _ _ (c .before .before .before .before .loop .inv .holds)
 
   read-fields-returns-2 : read-fields-lts.Need-returns-2 read-fields-calls read-fields-at read-fields.Post read-fields-Inv-loop read-fields-μ-loop
   read-fields-returns-2 c =
-      let at-field = c .before .before .before in
-      let inv = at-field .before .loop .inv in
-      let is-f = at-field .next-field .ensures in
-      reading-error _ _ _ _ _ _ _ _ _ inv _ is-f _ (c .before .f .given .1)
+      let at-step = c .before .before .before in
+      let inv = at-step .before .loop .inv in
+      let is-s = at-step .step-in .ensures in
+      reading-error _ _ _ _ _ _ _ _ _ inv _ is-s _ (c .before .f .given .1)
 
   read-fields-same-length-3 : read-fields-lts.Need-same-length-3 read-fields-calls read-fields-at read-fields.Post read-fields-Inv-loop read-fields-μ-loop
   read-fields-same-length-3 c =
@@ -220,11 +214,11 @@ module _ (t : ℕ) where
 
   read-fields-returns-3 : read-fields-lts.Need-returns-3 read-fields-calls read-fields-at read-fields.Post read-fields-Inv-loop read-fields-μ-loop
   read-fields-returns-3 c =
-      let at-field = c .before .before .before .before .before .before .before .before .before in
-      let inv = at-field .before .loop .inv in
-      let is-f = at-field .next-field .ensures in
+      let at-step = c .before .before .before .before .before .before .before .before .before in
+      let inv = at-step .before .loop .inv in
+      let is-s = at-step .step-in .ensures in
       let call = c .before .before .before .before .read-inside in
-      reading-refused _ _ _ _ _ _ _ _ _ inv _ is-f _ _ _ (c .before .before .before .before .before .before .before .f3 .given .1) _ (call .last .1 .1 .1 .1 .1 .1 .0) (call .ensures) (c .if1 .taken)
+      reading-refused _ _ _ _ _ _ _ _ _ inv _ is-s _ _ _ (c .before .before .before .before .before .before .before .f3 .given .1) _ (call .last .1 .1 .1 .1 .1 .1 .0) (call .ensures) (c .if1 .taken)
 
   read-inside-field-target-requires : read-inside-lts.Need-field-target-requires read-inside-calls read-inside-at read-inside.Post
   read-inside-field-target-requires c κs = search needs
@@ -342,25 +336,24 @@ pub +read-fields+read-inside-spec : {M : Type 1} → statement M
     close μ-read-fields μ-read-inside
     (λ t. read-fields-lts.spec (read-fields-calls t) (read-fields-at t) read-fields.Post read-fields-Inv-loop read-fields-μ-loop
     (read-fields-loop-holds t)
-    (read-fields-next-field-requires t)
+    (read-fields-step-in-requires t)
     (read-fields-enum-told t)
     (read-fields-enum-known-f t)
     (read-fields-enum-known-f-2 t)
     (read-fields-set-number-requires t)
-    (read-fields-loop-less t)
-    (read-fields-loop-again t)
     (read-fields-enum-known-f-3 t)
     (read-fields-read-inside-requires t)
-    (read-fields-add-i t)
+    (read-fields-enum-told-2 t)
+    (read-fields-enum-told-3 t)
+    (read-fields-enum-told-4 t)
+    (read-fields-loop-less t)
+    (read-fields-loop-again t)
     (read-fields-loop-less-2 t)
     (read-fields-loop-again-2 t)
-    (read-fields-enum-known-f-4 t)
     (read-fields-loop-less-3 t)
     (read-fields-loop-again-3 t)
-    (read-fields-enum-known-f-5 t)
     (read-fields-loop-less-4 t)
     (read-fields-loop-again-4 t)
-    (read-fields-enum-known-f-6 t)
     (read-fields-loop-less-5 t)
     (read-fields-loop-again-5 t)
     (read-fields-same-length t)

@@ -1,21 +1,20 @@
--- A u64 has at most 20 decimal digits.
-use Prim.Native.Nat.{ℕ, _-_, _^_, _≤_, _<_}
+-- What `io::decimal` makes of a number is its decimal, of at most 20 digits.
+use Prim.Native.Nat.{ℕ}
+use mathlib.Core.Path.{_≡_, ap, _∙_}
+use mathlib.Core.List.{List}
 use native.Mathlib.Omega.{arith}
-use native.Mathlib.Nat.{pow-le-pow-right}
-use native.Mathlib.Decide.{decLe}
-use Rattle.io.specs.Digits.{Fewest}
+use lib.ListN.{length, take}
+use Rattle.io.specs.Digits.{digits, Fewest}
+use Rattle.listing.specs.Lines.{decimal}
+use Rattle.listing.proofs.Adding.{adds-as}
+use Rattle.listing.proofs.Decimal.{digits-decimal, length-decimal}
 use borrow.Author.Needs.{needs}
 use Rattle.listing.proofs.text.number.Statement.{statement}
 use Rattle.listing.proofs.text.number.Tie as tie
 
-digits-fit : (n k : ℕ) → n < 2 ^ 64 → Fewest 10 1 n k → k ≤ 20
-digits-fit n k h f = go (decLe k 20)
-  where
-    go : Dec (k ≤ 20) → k ≤ 20
-    go (yes p) = p
-    go (no p) =
-        let more : 10 ^ 20 ≤ 10 ^ (k - 1) = pow-le-pow-right (omega arith) {i = 20} {j = k - 1} (omega arith) in
-        absurd (omega (arith, f .2 (omega arith)))
+-- the digits at the start of an array of digits
+is-decimal : {n k : ℕ} (text : List ℕ) → Fewest 10 1 n k → take k text ≡ digits 10 k n → take k text ≡ decimal n
+is-decimal {n} {k} text f e = e ∙ digits-decimal n k f
 
 decimal-requires : tie.Need-decimal-requires
 decimal-requires c κs = search needs
@@ -28,10 +27,12 @@ slice-aggregate-put c = search needs
 
 put-requires : tie.Need-put-requires
 put-requires c κs =
+    let at-decimal = c .before .before in
+    let args = at-decimal .before .before .before .args in
     omega (
       arith,
-      digits-fit (c .before .before .before .before .before .args .n) _ (omega arith) (c .before .before .decimal .ensures .1 .0),
-      c .before .before .decimal .ensures .0,
+      length-decimal (args .n) (omega arith),
+      ap length (is-decimal _ (at-decimal .decimal .ensures .1 .0) (at-decimal .decimal .ensures .1 .1)),
     )
 
 same-length : tie.Need-same-length
@@ -39,10 +40,13 @@ same-length c = search needs
 
 returns : tie.Need-returns
 returns c =
-    omega (
-      arith,
-      digits-fit (c .before .before .before .before .before .before .before .before .args .n) _ (omega arith) (c .before .before .before .before .before .decimal .ensures .1 .0),
-      c .before .before .before .before .before .decimal .ensures .0,
+    let at-put = c .before .before in
+    let at-decimal = at-put .before .before .before in
+    let args = at-decimal .before .before .before .args in
+    let text : _ ≡ decimal (args .n) = is-decimal _ (at-decimal .decimal .ensures .1 .0) (at-decimal .decimal .ensures .1 .1) in
+    let puts = at-put .put .ensures in (
+      adds-as text puts,
+      omega (arith, length-decimal (args .n) (omega arith), ap length text, puts .place),
     )
 
 pub number-spec : {M : Type 1} → statement M

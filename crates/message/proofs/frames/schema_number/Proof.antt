@@ -1,6 +1,6 @@
 -- Case by case, both schemas are the same.
 use borrow.Author.Needs.{needs}
-use Rattle.decoder.specs.Decoding.{schemaAt}
+use Rattle.decoder.specs.Schema.{schemaAt}
 use Rattle.message.proofs.frames.schema_number.Statement.{statement}
 use Rattle.message.proofs.frames.schema_number.Tie as tie
 

@@ -2,9 +2,8 @@
 use mathlib.Core.Path.{sym}
 use native.Mathlib.Omega.{arith}
 use lib.ListN.{List·getD-eq-default}
-use Rattle.decoder.specs.Decoding.{schemaAt}
-use Rattle.decoder.specs.DecoderState.{partSchema, slotAt}
-use Rattle.outgoing.specs.Items.{items, ended}
+use Rattle.decoder.specs.Schema.{schemaAt, partSchema, slotAt}
+use Rattle.outgoing.specs.Items.{items, noItem}
 use Rattle.outgoing.proofs.ItemLaws.{past}
 use Rattle.outgoing.proofs.table.close_item.Statement.{statement}
 use Rattle.outgoing.proofs.table.close_item.Tie as tie
@@ -35,7 +34,7 @@ returns-6 c = (rw (c .match .keys6), omega arith)
 
 returns-7 : tie.Need-returns-7
 unfolding items partSchema schemaAt slotAt
-returns-7 c = (sym (List·getD-eq-default (items (partSchema 5) (slotAt 5)) ended (past 6 _ (c .match .rest))), tt)
+returns-7 c = (sym (List·getD-eq-default (items (partSchema 5) (slotAt 5)) noItem (past 6 _ (c .match .rest))), tt)
 
 pub close-item-spec : {M : Type 1} → statement M
 close-item-spec = tie.close (tie.spec returns returns-2 returns-3 returns-4 returns-5 returns-6 returns-7)

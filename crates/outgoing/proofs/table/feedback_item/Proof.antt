@@ -2,9 +2,8 @@
 use mathlib.Core.Path.{sym}
 use native.Mathlib.Omega.{arith}
 use lib.ListN.{List·getD-eq-default}
-use Rattle.decoder.specs.Decoding.{schemaAt}
-use Rattle.decoder.specs.DecoderState.{partSchema, slotAt}
-use Rattle.outgoing.specs.Items.{items, ended}
+use Rattle.decoder.specs.Schema.{schemaAt, partSchema, slotAt}
+use Rattle.outgoing.specs.Items.{items, noItem}
 use Rattle.outgoing.proofs.ItemLaws.{past}
 use Rattle.outgoing.proofs.table.feedback_item.Statement.{statement}
 use Rattle.outgoing.proofs.table.feedback_item.Tie as tie
@@ -15,7 +14,7 @@ returns c = (rw (c .match .keys1), omega arith)
 
 returns-2 : tie.Need-returns-2
 unfolding items partSchema schemaAt slotAt
-returns-2 c = (sym (List·getD-eq-default (items (partSchema 4) (slotAt 4)) ended (past 1 _ (c .match .rest))), tt)
+returns-2 c = (sym (List·getD-eq-default (items (partSchema 4) (slotAt 4)) noItem (past 1 _ (c .match .rest))), tt)
 
 pub feedback-item-spec : {M : Type 1} → statement M
 feedback-item-spec = tie.close (tie.spec returns returns-2)

@@ -2,9 +2,8 @@
 use mathlib.Core.Path.{sym}
 use native.Mathlib.Omega.{arith}
 use lib.ListN.{List·getD-eq-default}
-use Rattle.decoder.specs.Decoding.{schemaAt}
-use Rattle.decoder.specs.DecoderState.{partSchema, slotAt}
-use Rattle.outgoing.specs.Items.{items, ended}
+use Rattle.decoder.specs.Schema.{schemaAt, partSchema, slotAt}
+use Rattle.outgoing.specs.Items.{items, noItem}
 use Rattle.outgoing.proofs.ItemLaws.{past}
 use Rattle.outgoing.proofs.table.request_item.Statement.{statement}
 use Rattle.outgoing.proofs.table.request_item.Tie as tie
@@ -59,7 +58,9 @@ returns-12 c = (rw (c .match .keys12), omega arith)
 
 returns-13 : tie.Need-returns-13
 unfolding items partSchema schemaAt slotAt
-returns-13 c = (sym (List·getD-eq-default (items (partSchema 0) (slotAt 0)) ended (past 12 _ (c .match .rest))), tt)
+returns-13 c = (sym (List·getD-eq-default (items (partSchema 0) (slotAt 0)) noItem (past 12 _ (c .match .rest))), tt)
 
 pub request-item-spec : {M : Type 1} → statement M
-request-item-spec = tie.close (tie.spec returns returns-2 returns-3 returns-4 returns-5 returns-6 returns-7 returns-8 returns-9 returns-10 returns-11 returns-12 returns-13)
+request-item-spec =
+    tie.close (tie.spec returns returns-2 returns-3 returns-4 returns-5 returns-6
+    returns-7 returns-8 returns-9 returns-10 returns-11 returns-12 returns-13)

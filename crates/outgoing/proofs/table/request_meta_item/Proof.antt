@@ -2,9 +2,8 @@
 use mathlib.Core.Path.{sym}
 use native.Mathlib.Omega.{arith}
 use lib.ListN.{List·getD-eq-default}
-use Rattle.decoder.specs.Decoding.{schemaAt}
-use Rattle.decoder.specs.DecoderState.{partSchema, slotAt}
-use Rattle.outgoing.specs.Items.{items, ended}
+use Rattle.decoder.specs.Schema.{schemaAt, partSchema, slotAt}
+use Rattle.outgoing.specs.Items.{items, noItem}
 use Rattle.outgoing.proofs.ItemLaws.{past}
 use Rattle.outgoing.proofs.table.request_meta_item.Statement.{statement}
 use Rattle.outgoing.proofs.table.request_meta_item.Tie as tie
@@ -31,7 +30,7 @@ returns-5 c = (rw (c .match .keys5), tt)
 
 returns-6 : tie.Need-returns-6
 unfolding items partSchema schemaAt slotAt
-returns-6 c = (sym (List·getD-eq-default (items (partSchema 6) (slotAt 6)) ended (past 5 _ (c .match .rest))), tt)
+returns-6 c = (sym (List·getD-eq-default (items (partSchema 6) (slotAt 6)) noItem (past 5 _ (c .match .rest))), tt)
 
 pub request-meta-item-spec : {M : Type 1} → statement M
 request-meta-item-spec = tie.close (tie.spec returns returns-2 returns-3 returns-4 returns-5 returns-6)

@@ -2,9 +2,8 @@
 use mathlib.Core.Path.{sym}
 use native.Mathlib.Omega.{arith}
 use lib.ListN.{List·getD-eq-default}
-use Rattle.decoder.specs.Decoding.{schemaAt}
-use Rattle.decoder.specs.DecoderState.{partSchema, slotAt}
-use Rattle.outgoing.specs.Items.{items, ended}
+use Rattle.decoder.specs.Schema.{schemaAt, partSchema, slotAt}
+use Rattle.outgoing.specs.Items.{items, noItem}
 use Rattle.outgoing.proofs.ItemLaws.{past}
 use Rattle.outgoing.proofs.table.response_item.Statement.{statement}
 use Rattle.outgoing.proofs.table.response_item.Tie as tie
@@ -55,7 +54,9 @@ returns-11 c = (rw (c .match .keys11), omega arith)
 
 returns-12 : tie.Need-returns-12
 unfolding items partSchema schemaAt slotAt
-returns-12 c = (sym (List·getD-eq-default (items (partSchema 1) (slotAt 1)) ended (past 11 _ (c .match .rest))), tt)
+returns-12 c = (sym (List·getD-eq-default (items (partSchema 1) (slotAt 1)) noItem (past 11 _ (c .match .rest))), tt)
 
 pub response-item-spec : {M : Type 1} → statement M
-response-item-spec = tie.close (tie.spec returns returns-2 returns-3 returns-4 returns-5 returns-6 returns-7 returns-8 returns-9 returns-10 returns-11 returns-12)
+response-item-spec =
+    tie.close (tie.spec returns returns-2 returns-3 returns-4 returns-5 returns-6
+    returns-7 returns-8 returns-9 returns-10 returns-11 returns-12)

@@ -2,9 +2,8 @@
 use mathlib.Core.Path.{sym}
 use native.Mathlib.Omega.{arith}
 use lib.ListN.{List·getD-eq-default}
-use Rattle.decoder.specs.Decoding.{schemaAt}
-use Rattle.decoder.specs.DecoderState.{partSchema, slotAt}
-use Rattle.outgoing.specs.Items.{items, ended}
+use Rattle.decoder.specs.Schema.{schemaAt, partSchema, slotAt}
+use Rattle.outgoing.specs.Items.{items, noItem}
 use Rattle.outgoing.proofs.ItemLaws.{past}
 use Rattle.outgoing.proofs.table.response_meta_item.Statement.{statement}
 use Rattle.outgoing.proofs.table.response_meta_item.Tie as tie
@@ -19,7 +18,7 @@ returns-2 c = (rw (c .match .keys2), omega arith)
 
 returns-3 : tie.Need-returns-3
 unfolding items partSchema schemaAt slotAt
-returns-3 c = (sym (List·getD-eq-default (items (partSchema 7) (slotAt 7)) ended (past 2 _ (c .match .rest))), tt)
+returns-3 c = (sym (List·getD-eq-default (items (partSchema 7) (slotAt 7)) noItem (past 2 _ (c .match .rest))), tt)
 
 pub response-meta-item-spec : {M : Type 1} → statement M
 response-meta-item-spec = tie.close (tie.spec returns returns-2 returns-3)

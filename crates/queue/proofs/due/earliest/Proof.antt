@@ -7,7 +7,7 @@ use native.Mathlib.Omega.{arith}
 use borrow.Author.Needs.{needs}
 use lib.ListN.{length}
 use Rattle.queue.proofs.Tests.{slots}
-use Rattle.queue.proofs.Leader.{Leads, leads-alone, leads-changed, leads-still, leads-earliest}
+use Rattle.queue.proofs.Leader.{Leads, leads-one, leads-changed, leads-still, leads-earliest}
 use Rattle.queue.proofs.Valid.{valid, arrival-at}
 use Rattle.queue.proofs.due.earliest.Statement.{statement}
 use Rattle.queue.proofs.due.earliest.Tie as tie
@@ -20,7 +20,7 @@ abbrev μ-loop : tie.MeasureT-loop
 
 loop-holds : tie.Need-loop-holds Inv-loop μ-loop
 loop-holds c = (
-  leads-alone (c .args .t1 .jobs),
+  leads-one (c .args .t1 .jobs),
   omega arith,
   valid (c .args .t1) (c .pre .0) .few,
   slots (c .args .t1 .jobs) _ (c .good .0 .1 .1 .0 .1 .0 .1),

@@ -63,7 +63,8 @@ returns-2 c =
     let a = c .before .before .args in
     let l = c .before .loop in
     let e : l .i ≡ a .t1 .count = omega arith in
-    sym e ∙ sym (l .inv .0 ∙ search-ends (hasPair (a .connection) (a .request)) (a .t1 .jobs) (a .t1 .count) (l .i) (omega arith) (omega arith))
+    sym e
+    ∙ sym (l .inv .0 ∙ search-ends (hasPair (a .connection) (a .request)) (a .t1 .jobs) (a .t1 .count) (l .i) (omega arith) (omega arith))
 
 pub find-spec : {M : Type 1} → statement M
 find-spec =

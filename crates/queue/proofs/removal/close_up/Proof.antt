@@ -1,4 +1,4 @@
--- `queue::removal::close_up` meets its contract: the jobs behind the place have moved up as far as place i.
+-- `queue::removal::close_up` meets its contract: the jobs after the place have moved up as far as place i.
 -- Assumes nothing.
 use Prim.Native.Nat.{_-_, _≤_}
 use mathlib.Core.Path.{_≡_}

@@ -4,7 +4,7 @@ use mathlib.Core.Path.{_≡_, refl}
 use native.Mathlib.Omega.{arith}
 use borrow.Author.Needs.{needs}
 use lib.ListN.{drop}
-use Rattle.decoder.specs.DecoderState.{partSchema, slotAt}
+use Rattle.decoder.specs.Schema.{partSchema, slotAt}
 use Rattle.outgoing.specs.Items.{items, itemsWithin}
 use Rattle.validation.proofs.GroundLaws.{each-within, fields-end, fields-stop, fields-next}
 use Rattle.validation.proofs.grounds.fields_within.Statement.{statement}
@@ -30,7 +30,8 @@ item-within-requires c κs = c .item-at .ensures .1
 returns : tie.Need-returns Inv-loop μ-loop
 returns c =
     let at-item = c .before .before in
-    fields-stop (each-within _ _) _ _ (at-item .before .before .loop .inv .1) (at-item .item-at .ensures) (c .before .item-within .ensures) (c .if1 .taken)
+    fields-stop (each-within _ _) _ _ (at-item .before .before .loop .inv .1) (at-item .item-at .ensures)
+    (c .before .item-within .ensures) (c .if1 .taken)
 
 add-k : tie.Need-add-k Inv-loop μ-loop
 add-k c = search needs
@@ -40,8 +41,11 @@ loop-less c = search needs
 
 loop-again : tie.Need-loop-again Inv-loop μ-loop
 loop-again c =
-    let at-item = c .before .before in
-    (omega arith, fields-next (each-within _ _) _ _ (at-item .before .before .loop .inv .1) (at-item .item-at .ensures) (c .before .item-within .ensures) (c .if1 .left))
+    let at-item = c .before .before in (
+      omega arith,
+      fields-next (each-within _ _) _ _ (at-item .before .before .loop .inv .1) (at-item .item-at .ensures)
+          (c .before .item-within .ensures) (c .if1 .left),
+    )
 
 returns-2 : tie.Need-returns-2 Inv-loop μ-loop
 returns-2 c = fields-end (each-within _ _) _ _ (c .before .loop .inv .1) (c .loop-test .left)

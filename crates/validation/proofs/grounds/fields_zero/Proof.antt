@@ -5,8 +5,8 @@ use mathlib.Core.Path.{_≡_, refl}
 use native.Mathlib.Omega.{arith}
 use borrow.Author.Needs.{needs}
 use lib.ListN.{drop}
+use Rattle.decoder.specs.Schema.{partSchema, slotAt}
 use Rattle.decoder.specs.Rows.{rowsIn}
-use Rattle.decoder.specs.DecoderState.{partSchema, slotAt}
 use Rattle.outgoing.specs.Items.{items, itemsZero}
 use Rattle.validation.proofs.GroundLaws.{each-zero, fields-end, fields-stop, fields-next}
 use Rattle.validation.proofs.grounds.fields_zero.Statement.{statement}
@@ -32,7 +32,8 @@ item-zero-requires c κs = c .item-at .ensures .1
 returns : tie.Need-returns Inv-loop μ-loop
 returns c =
     let at-item = c .before .before in
-    fields-stop (each-zero _ _) _ _ (at-item .before .before .loop .inv .1) (at-item .item-at .ensures) (c .before .item-zero .ensures) (c .if1 .taken)
+    fields-stop (each-zero _ _) _ _ (at-item .before .before .loop .inv .1) (at-item .item-at .ensures)
+    (c .before .item-zero .ensures) (c .if1 .taken)
 
 add-k : tie.Need-add-k Inv-loop μ-loop
 add-k c = search needs
@@ -42,8 +43,11 @@ loop-less c = search needs
 
 loop-again : tie.Need-loop-again Inv-loop μ-loop
 loop-again c =
-    let at-item = c .before .before in
-    (omega arith, fields-next (each-zero _ _) _ _ (at-item .before .before .loop .inv .1) (at-item .item-at .ensures) (c .before .item-zero .ensures) (c .if1 .left))
+    let at-item = c .before .before in (
+      omega arith,
+      fields-next (each-zero _ _) _ _ (at-item .before .before .loop .inv .1) (at-item .item-at .ensures)
+          (c .before .item-zero .ensures) (c .if1 .left),
+    )
 
 returns-2 : tie.Need-returns-2 Inv-loop μ-loop
 returns-2 c = fields-end (each-zero _ _) _ _ (c .before .loop .inv .1) (c .loop-test .left)

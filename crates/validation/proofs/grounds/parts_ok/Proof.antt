@@ -22,7 +22,8 @@ part-ok-requires-2 : tie.Need-part-ok-requires-2
 part-ok-requires-2 c κs = search needs
 
 returns-2 : tie.Need-returns-2
-returns-2 c = c .part-ok2 .ensures ∙ sym (goes _ _ refl (absent-init _ _) (holds (c .before .before .part-ok .ensures) (c .before .if1 .left)))
+returns-2 c =
+    c .part-ok2 .ensures ∙ sym (goes _ _ refl (absent-init _ _) (holds (c .before .before .part-ok .ensures) (c .before .if1 .left)))
 
 pub parts-ok-spec : {M : Type 1} → statement M
 parts-ok-spec =

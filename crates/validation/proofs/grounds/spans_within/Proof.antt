@@ -1,7 +1,6 @@
 -- The fields of a message with no part inside are those of its schema; Data has none.
 use borrow.Author.Needs.{needs}
-use Rattle.decoder.specs.DecoderState.{partSchema, slotAt}
-use Rattle.decoder.specs.Decoding.{schemaAt}
+use Rattle.decoder.specs.Schema.{partSchema, slotAt, schemaAt}
 use Rattle.validation.specs.Grounds.{spansWithin}
 use Rattle.outgoing.specs.Items.{items, itemWithin, itemsWithin}
 use Rattle.validation.proofs.grounds.spans_within.Statement.{statement}

@@ -1,56 +1,78 @@
--- In the order of the definition. A body over 65,536 makes the frame larger yet.
-use Prim.Native.Nat.{_+_}
-use borrow.Author.Tests.{le-leb, lt-leb}
-use Rattle.writer.specs.Items.{sizeError}
+-- In the order of the definition. A size that is not the frame's is over 65,536, as the frame is.
+use Prim.Native.Nat.{ℕ, _+_, _<_, _≤_}
+use mathlib.Core.Path.{_≡_, refl}
+use mathlib.Core.Bool.{Bool, true, false}
+use lib.Dec.{leb}
+use borrow.Author.Tests.{le-leb, lt-leb, leb-true, leb-false}
+use Rattle.frame.specs.Header.{maxFrame}
+use Rattle.writer.specs.Writing.{sizeError}
+use Rattle.writer.specs.Items.{SizeOf}
 use borrow.Author.Needs.{needs}
 use native.Mathlib.Omega.{arith}
 use Rattle.writer.proofs.encode.size_error.Statement.{statement}
 use Rattle.writer.proofs.encode.size_error.Tie as tie
 
+module _ (total n : ℕ) (is : SizeOf total n) where
+  over : maxFrame < n → maxFrame < total
+  over h = by (leb total maxFrame) refl
+    where
+      by : (b : Bool) → leb total maxFrame ≡ b → maxFrame < total
+      by true e = absurd (omega (arith, leb-true total maxFrame e, is .0 (leb-true total maxFrame e)))
+      by false e = leb-false total maxFrame e
+
+  same : n ≤ maxFrame → n ≡ total
+  same h = by (leb total maxFrame) refl
+    where
+      by : (b : Bool) → leb total maxFrame ≡ b → n ≡ total
+      by true e = is .0 (leb-true total maxFrame e)
+      by false e = absurd (omega (arith, is .1 (leb-false total maxFrame e)))
+
+frame-size-requires : tie.Need-frame-size-requires
+frame-size-requires c κs = search needs
+
 returns : tie.Need-returns
 unfolding sizeError
 returns c =
-    let args = c .before .args in
-    rw (lt-leb (16 + args .size + args .body) 65536 (omega arith))
-
-add-total : tie.Need-add-total
-add-total c = search needs
-
-add-total-2 : tie.Need-add-total-2
-add-total-2 c = search needs
+    let at-size = c .before in
+    let args = at-size .before .args in
+    let total = 16 + args .size + args .body in
+    rw (lt-leb total 65536 (over total _ (at-size .frame-size .ensures) (omega arith)))
 
 returns-2 : tie.Need-returns-2
 unfolding sizeError
 returns-2 c =
-    let args = c .before .before .args in
-    rw (lt-leb (16 + args .size + args .body) 65536 (omega arith))
+    let at-size = c .before .before in
+    let args = at-size .before .args in
+    let total = 16 + args .size + args .body in
+    let is = same total _ (at-size .frame-size .ensures) (omega arith) in
+    rw (le-leb total 65536 (omega (arith, is)), lt-leb (args .size) 65535 (omega arith))
 
 returns-3 : tie.Need-returns-3
 unfolding sizeError
 returns-3 c =
-    let args = c .before .before .before .args in
-    rw (le-leb (16 + args .size + args .body) 65536 (omega arith), lt-leb (args .size) 65535 (omega arith))
+    let at-size = c .before .before .before in
+    let args = at-size .before .args in
+    let total = 16 + args .size + args .body in
+    let is = same total _ (at-size .frame-size .ensures) (omega arith) in
+    rw (
+      le-leb total 65536 (omega (arith, is)),
+      le-leb (args .size) 65535 (omega arith),
+      lt-leb total (args .room) (omega (arith, is)),
+    )
 
 returns-4 : tie.Need-returns-4
 unfolding sizeError
 returns-4 c =
-    let args = c .before .before .before .before .args in
+    let at-size = c .before .before .before in
+    let args = at-size .before .args in
+    let total = 16 + args .size + args .body in
+    let is = same total _ (at-size .frame-size .ensures) (omega arith) in
     rw (
-      le-leb (16 + args .size + args .body) 65536 (omega arith),
+      le-leb total 65536 (omega (arith, is)),
       le-leb (args .size) 65535 (omega arith),
-      lt-leb (16 + args .size + args .body) (args .room) (omega arith),
-    )
-
-returns-5 : tie.Need-returns-5
-unfolding sizeError
-returns-5 c =
-    let args = c .before .before .before .before .args in
-    rw (
-      le-leb (16 + args .size + args .body) 65536 (omega arith),
-      le-leb (args .size) 65535 (omega arith),
-      le-leb (16 + args .size + args .body) (args .room) (omega arith),
+      le-leb total (args .room) (omega (arith, is)),
     )
 
 pub size-error-spec : {M : Type 1} → statement M
 size-error-spec =
-    tie.close (tie.spec returns add-total add-total-2 returns-2 returns-3 returns-4 returns-5)
+    tie.close (tie.spec frame-size-requires returns returns-2 returns-3 returns-4)

@@ -6,9 +6,9 @@ use mathlib.Core.List.{List}
 use lib.ListN.{length}
 use Rattle.frame.specs.Header.{maxFrame}
 use Rattle.decoder.specs.Rows.{rowsIn}
-use Rattle.writer.specs.Writing.{maxHeader}
+use Rattle.writer.specs.Writing.{maxHeader, sizeError}
 use Rattle.outgoing.specs.Items.{schemaNumber}
-use Rattle.writer.specs.Items.{sizesOf, messageWithin, sizeError, Lent, RowsIn, messageIn}
+use Rattle.writer.specs.Items.{sizesOf, messageWithin, Lent, RowsIn, messageIn}
 use Rattle.outgoing.specs.declared.Content.{Content}
 use Rattle.writer.specs.declared.sizes.Sizes.{Sizes}
 use Rattle.writer.proofs.Messages.{size-is}
@@ -18,8 +18,10 @@ use Rattle.writer.proofs.encode.write_content.Statement.{statement}
 use Rattle.writer.proofs.encode.write_content.Tie as tie
 
 module _ (c : Content) (source numbers body out : List ℕ)
-    (pre : Lent (c .rows) numbers × RowsIn (c .rows) source numbers × (messageWithin (length source) (c .values) (schemaNumber (c .kind)) ≡ true))
-    (schema : ℕ) (is-schema : schema ≡ schemaNumber (c .kind)) (sizes : Sizes) (is-sizes : sizes ≡ sizesOf (rowsIn (c .rows) numbers) (c .values) schema)
+    (pre : Lent (c .rows) numbers × RowsIn (c .rows) source numbers
+    × (messageWithin (length source) (c .values) (schemaNumber (c .kind)) ≡ true))
+    (schema : ℕ) (is-schema : schema ≡ schemaNumber (c .kind)) (sizes : Sizes)
+    (is-sizes : sizes ≡ sizesOf (rowsIn (c .rows) numbers) (c .values) schema)
     (e : ℕ) (is-e : e ≡ sizeError (sizes .message) (16 + sizes .message + length body) (length out)) where
   sizes-are : sizes ≡ sizesOf (rowsIn (c .rows) numbers) (c .values) (schemaNumber (c .kind))
   sizes-are = is-sizes ∙ ap (sizesOf (rowsIn (c .rows) numbers) (c .values)) is-schema
@@ -61,7 +63,8 @@ put-frame-requires c κs =
     let at-schema-number = at-message-sizes .before in
     let start = at-schema-number .before .before .before .before .before in
     let args = start .args in
-    ready (args .c) (args .source .now) (args .rows .now) (args .body .now) (args .out .now) (start .pre) _ (at-schema-number .schema-number .ensures)
+    ready (args .c) (args .source .now) (args .rows .now) (args .body .now) (args .out .now) (start .pre) _
+    (at-schema-number .schema-number .ensures)
     _ (at-message-sizes .message-sizes .ensures .0) _ (at-size-error .size-error .ensures) (c .before .if1 .left)
 
 same-length : tie.Need-same-length

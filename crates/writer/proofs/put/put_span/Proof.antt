@@ -1,40 +1,64 @@
--- The bytes of the source that are written.
-use Rattle.writer.proofs.Outputs.{wrote}
+-- The tag and the length, and the bytes of the source after them.
 use Prim.Native.Nat.{ℕ, _+_, _-_, _≤_}
-use mathlib.Core.Path.{_≡_}
-use mathlib.Core.List.{List}
+use mathlib.Core.Path.{_≡_, subst}
+use mathlib.Core.List.{List, _++_}
 use lib.ListN.{length, take, drop}
-use Rattle.field_writer.specs.Writing.{putBytes, stored, writtenAt}
+use Rattle.field_writer.specs.Writing.{putTag, putVarint, putBytes, stored, writtenAt}
 use Rattle.field_writer.specs.declared.Written.{Written}
 use Rattle.decoder.specs.Fields.{partOf}
 use Rattle.writer.specs.Items.{Puts, placeOf}
+use Rattle.writer.proofs.Lengths.{part-length}
+use Rattle.writer.proofs.Outputs.{Left, starts, first-fits, steps, ends, wrote}
 use borrow.Author.Needs.{needs}
 use native.Mathlib.Omega.{arith}
 use Rattle.writer.proofs.put.put_span.Statement.{statement}
 use Rattle.writer.proofs.put.put_span.Tie as tie
 
-span-put : (n : ℕ) (source : List ℕ) (first size : ℕ) (out : List ℕ) (at : ℕ) → at + length (putBytes n (partOf source first size)) ≤ length out
-    → (w : Written) → w ≡ writtenAt out at (putBytes n (take (first + size - first) (drop first source))) → (r : ℕ) → r ≡ placeOf w at
-    → (after : List ℕ) → after ≡ stored out at (putBytes n (take (first + size - first) (drop first source)))
-    → Puts (putBytes n (partOf source first size)) out at r after
-span-put n source first size out at h w e r f after g =
-    let same : first + size - first ≡ size = omega arith in
-    wrote _ _ _ h w (rw same at e) r f after (rw same at g)
+module _ (n : ℕ) (source : List ℕ) (first size : ℕ) (out : List ℕ) (at : ℕ)
+    (pre : (first + size ≤ length source) × (at + length (putBytes n (partOf source first size)) ≤ length out)) where
+  abbrev head : List ℕ
+  head = putTag n 2 ++ putVarint size
+
+  abbrev content : List ℕ
+  content = partOf source first size
+
+  all : Left (head ++ content) (putBytes n content) out at out at
+  all =
+      subst (λ (k : ℕ). Left (putTag n 2 ++ putVarint k ++ content) (putBytes n content) out at out at)
+      (part-length source first size (pre .0)) (starts (putBytes n content) out at (pre .1))
+
+  head-fits : at + length head ≤ length out
+  head-fits = first-fits head content all
+
+  span-put : {inside : ℕ} {out₁ : List ℕ} → Puts head out at inside out₁
+      → (w : Written) → w ≡ writtenAt out₁ inside (take (first + size - first) (drop first source)) → (r : ℕ) → r ≡ placeOf w inside
+      → (after : List ℕ) → after ≡ stored out₁ inside (take (first + size - first) (drop first source))
+      → Puts (putBytes n content) out at r after
+  span-put put w e r f after g =
+      let same : first + size - first ≡ size = omega arith in
+      let left = steps head content all put in
+      ends left (wrote _ _ _ (left .room) w (rw same at e) r f after (rw same at g))
 
 add-end : tie.Need-add-end
 add-end c = search needs
 
-sub-write-bytes : tie.Need-sub-write-bytes
-sub-write-bytes c = search needs
+put-tagged-requires : tie.Need-put-tagged-requires
+put-tagged-requires c κs =
+    let start = c .before .before .before in
+    let args = start .args in
+    head-fits (args .number) (args .source .now) (args .start) (args .size) (args .out .now) (args .at) (start .pre)
 
-part-write-bytes-start : tie.Need-part-write-bytes-start
-part-write-bytes-start c = search needs
+sub-write-raw : tie.Need-sub-write-raw
+sub-write-raw c = search needs
 
-part-write-bytes-end : tie.Need-part-write-bytes-end
-part-write-bytes-end c = search needs
+part-write-raw-start : tie.Need-part-write-raw-start
+part-write-raw-start c = search needs
 
-write-bytes-requires : tie.Need-write-bytes-requires
-write-bytes-requires c κs = search needs
+part-write-raw-end : tie.Need-part-write-raw-end
+part-write-raw-end c = search needs
+
+write-raw-requires : tie.Need-write-raw-requires
+write-raw-requires c κs = search needs
 
 place-behind-requires : tie.Need-place-behind-requires
 place-behind-requires c κs = search needs
@@ -44,21 +68,24 @@ same-length c = search needs
 
 returns : tie.Need-returns
 returns c =
-    let start = c .before .before .before .before .before .before .before .before in
     let at-write = c .before .before .before in
+    let at-put-tagged = at-write .before .before .before .before .before in
+    let start = at-put-tagged .before .before .before .before in
     let args = start .args in
-    span-put (args .number) (args .source .now) (args .start) (args .size) (args .out .now) (args .at) (start .pre .1) _
-    (at-write .write-bytes .ensures .0) _ (c .place-behind .ensures) _ (at-write .write-bytes .ensures .1)
+    span-put (args .number) (args .source .now) (args .start) (args .size) (args .out .now) (args .at) (start .pre)
+    (at-put-tagged .put-tagged .ensures) _
+    (at-write .write-raw .ensures .0) _ (c .place-behind .ensures) _ (at-write .write-raw .ensures .1)
 
 pub put-span-spec : {M : Type 1} → statement M
 put-span-spec =
     tie.close
     (tie.spec
     add-end
-    sub-write-bytes
-    part-write-bytes-start
-    part-write-bytes-end
-    write-bytes-requires
+    put-tagged-requires
+    sub-write-raw
+    part-write-raw-start
+    part-write-raw-end
+    write-raw-requires
     place-behind-requires
     same-length
     returns)

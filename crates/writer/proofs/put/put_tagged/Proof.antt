@@ -1,4 +1,4 @@
--- The tag, and the varint behind it.
+-- The tag, and the varint after it.
 use mathlib.Core.List.{_++_}
 use Rattle.field_writer.specs.Writing.{putTag, putVarint}
 use Rattle.writer.proofs.Outputs.{starts, first-fits, steps, ends, wrote}
@@ -6,14 +6,20 @@ use borrow.Author.Needs.{needs}
 use Rattle.writer.proofs.put.put_tagged.Statement.{statement}
 use Rattle.writer.proofs.put.put_tagged.Tie as tie
 
-write-tag-requires : tie.Need-write-tag-requires
-write-tag-requires c κs = search needs
+mul-tag : tie.Need-mul-tag
+mul-tag c = search needs
+
+add-tag : tie.Need-add-tag
+add-tag c = search needs
+
+write-varint-requires : tie.Need-write-varint-requires
+write-varint-requires c κs = search needs
 
 place-behind-requires : tie.Need-place-behind-requires
 place-behind-requires c κs = search needs
 
-write-varint-requires : tie.Need-write-varint-requires
-write-varint-requires c κs = search needs
+write-varint-requires-2 : tie.Need-write-varint-requires-2
+write-varint-requires-2 c κs = search needs
 
 place-behind-requires-2 : tie.Need-place-behind-requires-2
 place-behind-requires-2 c κs = search needs
@@ -29,18 +35,22 @@ returns c =
     let at-tag = c .before .before .before .before .before .before .before .before in
     let args = start .args in
     let all = starts (putTag (args .number) (args .wire-type) ++ putVarint (args .value)) (args .out .now) (args .at) (start .pre) in
-    let tag = wrote _ _ _ (first-fits (putTag (args .number) (args .wire-type)) (putVarint (args .value)) all) _ (at-tag .write-tag .ensures .0) _
-    (at-place-behind .place-behind .ensures) _ (at-tag .write-tag .ensures .1) in
+    let tag = wrote _ _ _ (first-fits (putTag (args .number) (args .wire-type)) (putVarint (args .value)) all) _
+    (at-tag .write-varint .ensures .0) _
+    (at-place-behind .place-behind .ensures) _ (at-tag .write-varint .ensures .1) in
     let left = steps (putTag (args .number) (args .wire-type)) (putVarint (args .value)) all tag in
-    ends left (wrote _ _ _ (left .room) _ (at-varint .write-varint .ensures .0) _ (c .place-behind2 .ensures) _ (at-varint .write-varint .ensures .1))
+    ends left (wrote _ _ _ (left .room) _ (at-varint .write-varint2 .ensures .0) _ (c .place-behind2 .ensures) _
+    (at-varint .write-varint2 .ensures .1))
 
 pub put-tagged-spec : {M : Type 1} → statement M
 put-tagged-spec =
     tie.close
     (tie.spec
-    write-tag-requires
-    place-behind-requires
+    mul-tag
+    add-tag
     write-varint-requires
+    place-behind-requires
+    write-varint-requires-2
     place-behind-requires-2
     same-length
     returns)

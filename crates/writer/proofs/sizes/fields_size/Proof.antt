@@ -14,7 +14,8 @@ use Rattle.writer.proofs.sizes.fields_size.Tie as tie
 abbrev Inv-loop : tie.InvT-loop
 Inv-loop schema c rows size₀ k₀ size k =
     (k ≤ 12) × (size ≤ k * mostItem)
-    × (size + itemsSize (rowsIn (c .rows) rows) (c .values) (drop k (itemsOf schema)) ≡ itemsSize (rowsIn (c .rows) rows) (c .values) (itemsOf schema))
+    × (size + itemsSize (rowsIn (c .rows) rows) (c .values) (drop k (itemsOf schema))
+    ≡ itemsSize (rowsIn (c .rows) rows) (c .values) (itemsOf schema))
 
 abbrev μ-loop : tie.MeasureT-loop
 μ-loop schema c rows size₀ k₀ size k = 12 - k

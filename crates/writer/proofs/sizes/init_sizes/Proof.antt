@@ -56,7 +56,8 @@ returns c =
     let at-value-at = at-size-if .before in
     let at-fields-size2 = at-value-at .before in
     let at-fields-size = at-fields-size2 .before in
-    init-sizes-are _ _ _ _ _ _ _ _ _ (at-fields-size .fields-size .ensures) (at-fields-size2 .fields-size2 .ensures) (c .fields-size3 .ensures)
+    init-sizes-are _ _ _ _ _ _ _ _ _ (at-fields-size .fields-size .ensures) (at-fields-size2 .fields-size2 .ensures)
+    (c .fields-size3 .ensures)
     (at-value-at .value-at .ensures) (at-value-at2 .value-at2 .ensures) (at-size-if .size-if .ensures) (c .before .size-if2 .ensures)
 
 pub init-sizes-spec : {M : Type 1} → statement M

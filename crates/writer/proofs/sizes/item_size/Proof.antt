@@ -50,16 +50,25 @@ enum-told : tie.Need-enum-told
 enum-told c = search needs
 
 returns : tie.Need-returns
-returns c =
-    (c .number-size .ensures .0 ∙ size-unsigned _ _ _ _ _ (c .before .before .before .item .given .1) (c .before .value-at .ensures), c .number-size .ensures .1)
+returns c = (
+  c .number-size .ensures .0
+      ∙ size-unsigned _ _ _ _ _ (c .before .before .before .item .given .1) (c .before .value-at .ensures),
+  c .number-size .ensures .1,
+)
 
 returns-2 : tie.Need-returns-2
-returns-2 c =
-    (c .number-size2 .ensures .0 ∙ size-signed _ _ _ _ _ (c .before .before .before .item2 .given .1) (c .before .value-at2 .ensures), c .number-size2 .ensures .1)
+returns-2 c = (
+  c .number-size2 .ensures .0
+      ∙ size-signed _ _ _ _ _ (c .before .before .before .item2 .given .1) (c .before .value-at2 .ensures),
+  c .number-size2 .ensures .1,
+)
 
 returns-3 : tie.Need-returns-3
-returns-3 c =
-    (c .some-size .ensures .0 ∙ size-bytes _ _ _ _ _ (c .before .before .before .item3 .given .1) (c .before .value-at3 .ensures), c .some-size .ensures .1)
+returns-3 c = (
+  c .some-size .ensures .0
+      ∙ size-bytes _ _ _ _ _ (c .before .before .before .item3 .given .1) (c .before .value-at3 .ensures),
+  c .some-size .ensures .1,
+)
 
 returns-4 : tie.Need-returns-4
 returns-4 c = (c .rows-size .ensures .0 ∙ size-map _ _ _ (c .before .before .before .item4 .given .1), c .rows-size .ensures .1)

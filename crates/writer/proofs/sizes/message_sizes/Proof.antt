@@ -15,8 +15,11 @@ fields-size-requires : tie.Need-fields-size-requires
 fields-size-requires c κs = search needs
 
 returns-2 : tie.Need-returns-2
-returns-2 c =
-    (rw (ne-eqb (c .before .before .before .args .schema) 2 (c .before .if1 .left), c .fields-size .ensures .0), omega (arith, c .fields-size .ensures .1))
+returns-2 c = (
+  rw (ne-eqb (c .before .before .before .args .schema) 2 (c .before .if1 .left), c .fields-size .ensures .0),
+  omega
+      (arith, c .fields-size .ensures .1),
+)
 
 pub message-sizes-spec : {M : Type 1} → statement M
 message-sizes-spec =

@@ -32,11 +32,16 @@ returns-2 c =
     let at-tag = c .before .before in
     let args = at-tag .before .before .args in
     let type = integerOf (args .signed) in
-    let value : c .varint-len .result ≡ length (putVarint (wide type (args .value))) = c .varint-len .ensures ∙ ap (λ (v : ℕ). length (putVarint v))
+    let value : c .varint-len .result ≡ length (putVarint (wide type (args .value))) = c .varint-len .ensures
+    ∙ ap (λ (v : ℕ). length (putVarint v))
     (c .before .widened .ensures) in
-    let whole = ap length (number-in type (args .number) (args .value) (at-tag .before .if1 .left)) ∙ length-append (putTag (args .number) 0)
-    (putVarint (wide type (args .value))) in
-    (omega (arith, value, whole, at-tag .tag-size .ensures), omega (arith, at-tag .tag-size .ensures, value, varint-bounds (wide type (args .value))))
+    let whole = ap length (number-in type (args .number) (args .value) (at-tag .before .if1 .left))
+    ∙ length-append (putTag (args .number) 0)
+    (putVarint (wide type (args .value))) in (
+      omega (arith, value, whole, at-tag .tag-size .ensures),
+      omega
+          (arith, at-tag .tag-size .ensures, value, varint-bounds (wide type (args .value))),
+    )
 
 pub number-size-spec : {M : Type 1} → statement M
 number-size-spec =

@@ -44,7 +44,8 @@ loop-again c =
     let inv = at-test .before .loop .inv in (
       omega arith,
       omega arith,
-      rows-more _ _ _ _ _ (inv .2) (at-test .loop-test .taken) _ (c .before .before .entry-at .ensures) _ _ (c .before .entry-size .ensures .0)
+      rows-more _ _ _ _ _ (inv .2) (at-test .loop-test .taken) _ (c .before .before .entry-at .ensures) _ _
+          (c .before .entry-size .ensures .0)
           (c .bytes-size .ensures .0),
     )
 

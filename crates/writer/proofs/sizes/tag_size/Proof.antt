@@ -16,8 +16,11 @@ varint-len-requires : tie.Need-varint-len-requires
 varint-len-requires c κs = search needs
 
 returns : tie.Need-returns
-returns c =
-    (c .varint-len .ensures, omega (arith, c .varint-len .ensures, varint-bounds (c .before .args .number * 8 + c .before .args .wire-type)))
+returns c = (
+  c .varint-len .ensures,
+  omega
+      (arith, c .varint-len .ensures, varint-bounds (c .before .args .number * 8 + c .before .args .wire-type)),
+)
 
 pub tag-size-spec : {M : Type 1} → statement M
 tag-size-spec = tie.close (tie.spec mul-varint-len add-varint-len varint-len-requires returns)

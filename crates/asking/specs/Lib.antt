@@ -1,0 +1,2 @@
+-- What a contract asks of a caller
+pub mod Asking

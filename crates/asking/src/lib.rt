@@ -1,0 +1,1 @@
+// What a contract asks of a caller. A definition, and no code.

@@ -1,0 +1,25 @@
+-- Document 01, "The listing": its example, computed. The cutting of its 20 bytes is a row of `thm_examples`
+use mathlib.Core.Path.{_≡_, refl}
+use mathlib.Core.List.{List, [], _∷_, _++_}
+use Rattle.frame.specs.Header.{be16Of, be32Of, totalOf, headerSizeOf, idOf, headerError, typeOf, parsed}
+use Rattle.frame.specs.Header.{magicOk, dataTypeOk, streamTypeOk, totalOk, headerSizeOk, reservedOk, faultOf}
+use Rattle.frame.specs.declared.FixedHeader.{FixedHeader}
+use Rattle.frame.specs.declared.FrameType.the-variants.{Feedback}
+use Rattle.frame.specs.declared.Parsed.the-variants.{Good}
+use Rattle.frame.specs.declared.End.the-variants.{Short}
+use Rattle.listing.specs.Lines.{placesIn, decimal, frameLine, endLine}
+
+abbrev header : FixedHeader
+header = record { «frame_type» = Feedback; total = 19; «header_size» = 0; id = 5 }
+
+pub example-header : parsed (0x09 ∷ 0x30 ∷ 0x01 ∷ 0x03 ∷ 0 ∷ 0 ∷ 0 ∷ 0x13 ∷ 0 ∷ 0 ∷ 0 ∷ 0 ∷ 0 ∷ 0x05 ∷ 0 ∷ 0 ∷ []) ≡ Good header
+unfolding parsed headerError typeOf be16Of be32Of totalOf headerSizeOf idOf magicOk dataTypeOk streamTypeOk totalOk headerSizeOk reservedOk
+    faultOf
+example-header = refl
+
+-- "prints exactly `1 feedback 5 19` `end short 1`"
+pub example-printed : frameLine 1 header ++ endLine (Short 1)
+    ≡ 49 ∷ 32 ∷ 102 ∷ 101 ∷ 101 ∷ 100 ∷ 98 ∷ 97 ∷ 99 ∷ 107 ∷ 32 ∷ 53 ∷ 32 ∷ 49 ∷ 57 ∷ 10
+    ∷ 101 ∷ 110 ∷ 100 ∷ 32 ∷ 115 ∷ 104 ∷ 111 ∷ 114 ∷ 116 ∷ 32 ∷ 49 ∷ 10 ∷ []
+unfolding decimal placesIn
+example-printed = refl

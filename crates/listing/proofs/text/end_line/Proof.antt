@@ -1,0 +1,38 @@
+-- Each arm puts the line of its end.
+use mathlib.Core.Path.{sym, ap}
+use native.Mathlib.Omega.{arith}
+use Rattle.listing.specs.Lines.{endLine}
+use Rattle.listing.proofs.Adding.{adds-as}
+use borrow.Author.Needs.{needs}
+use Rattle.listing.proofs.text.end_line.Statement.{statement}
+use Rattle.listing.proofs.text.end_line.Tie as tie
+
+pub end-line-spec : {M : Type 1} → statement M
+end-line-spec =
+    tie.close
+    (tie.spec
+    (λ c. search needs)
+    (λ c. search needs)
+    (λ c κs. search needs)
+    (λ c. search needs)
+    (λ c. search needs)
+    (λ c κs. search needs)
+    (λ c. search needs)
+    (λ c. search needs)
+    (λ c. search needs)
+    (λ c κs. search needs)
+    (λ c. search needs)
+    (λ c.
+    let at-put = c .before .before in
+    let which = at-put .before .before .before .enum-told .given .1 in
+    (adds-as (ap endLine (sym which)) (at-put .put .ensures), omega arith))
+    (λ c. search needs)
+    (λ c.
+    let at-call = c .before .before in
+    let which = at-call .before .before .before .before .end .given .1 in
+    (adds-as (ap endLine (sym which)) (at-call .counted .ensures .0), at-call .counted .ensures .1))
+    (λ c. search needs)
+    (λ c.
+    let at-call = c .before .before in
+    let which = at-call .before .before .before .before .end2 .given .1 in
+    (adds-as (ap endLine (sym which)) (at-call .counted2 .ensures .0), at-call .counted2 .ensures .1)))

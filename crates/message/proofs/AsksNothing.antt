@@ -1,0 +1,11 @@
+-- Demand 1: no public entry of this crate asks anything of its caller. `tests/entries` compares the list with the sources.
+-- Assumes nothing.
+use mathlib.Core.Path.{refl}
+use Rattle.asking.specs.Asking.{AsksNothing}
+use Rattle.message.proofs as entry
+
+pub read-spans : AsksNothing entry.read_spans.signature (λ M. entry.read_spans.spec)
+read-spans M 𝓤 H A mem run κs a = (tt, refl)
+
+pub record-of : AsksNothing entry.records.record_of.signature (λ M. entry.records.record_of.spec)
+record-of M 𝓤 H A mem run κs a = (tt, refl)

@@ -1,0 +1,2 @@
+-- Document 01's checked examples
+pub mod Examples

@@ -1,0 +1,4 @@
+-- Document 01, "Checked examples": what a row says, and the table
+pub mod Rows
+pub mod Bytes
+pub mod Table

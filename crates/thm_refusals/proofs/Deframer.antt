@@ -1,0 +1,165 @@
+-- For a user: when `deframe` and `finish` give which number. `deframe-gives` and `finish-gives` are of any call, by its contract alone.
+-- Promised, for any state, buffer and piece: 1, 2, a held refusal and, from `deframe`, 3 to 8, each exactly when its ground holds and none
+-- before it in the order does; the work where none holds; and the state, the count taken and the whole buffer afterwards, by either.
+-- Not promised: anything over several calls, which `stream_trace` says.
+-- Ruled out: a deframer that refuses everything, one that always wants more, and one that gives 2 where the buffer is small, too.
+-- Assumes nothing.
+use Prim.Native.Nat.{ℕ, _<_, _≤_}
+use mathlib.Core.Path.{_≡_, refl, sym, ap, subst, _∙_}
+use mathlib.Core.Logic.{inl, inr}
+use mathlib.Core.Bool.{Bool, true, false, not, cond}
+use mathlib.Core.List.{List, _∷_}
+use native.Mathlib.Omega.{arith}
+use borrow.Author.Tests.{eqb-true, eqb-false, eq-eqb, ne-eqb, ltb-true, ltb-false, lt-leb}
+use lib.Dec.{eqb, ltb, leb}
+use lib.ListN.{length, take}
+use Rattle.frame.specs.Header.{maxFrame, headerError, faultOf, totalOf}
+use Rattle.frame.specs.Deframe.{knownOf, stream, nextFrame, Out, moved, advance, unmoved, deframed, ended}
+use Rattle.frame.specs.declared.Deframer.{Deframer}
+use Rattle.frame.specs.declared.Step.{Step}
+use Rattle.frame.specs.declared.Progress.{Progress}
+use Rattle.frame.specs.declared.Progress.the-variants.{Frame, NeedMore, Refused}
+use Rattle.frame.specs.declared.End.{End}
+use Rattle.frame.specs.declared.End.the-variants as end
+use Rattle.frame.proofs.Codes.{first-sixteen, Code, fault-code}
+use Rattle.stream_trace.specs.Trace.{Deframes, Finishes}
+use Rattle.refusals.specs.Grounds.{ground, works, refuses, Exactly}
+use Rattle.refusals.proofs.Tests.{Finds, each, missing, reworded, equal, below, up-to, choose}
+use Rattle.refusals.proofs.Order.{Outcome, end, when, passed, stopped, under-met, under-unmet, of-error, exactly}
+use Rattle.thm_refusals.specs.Header.{faults}
+use Rattle.thm_refusals.specs.Deframer.{Known, streamFaults, progressSays, deframeRefusal, cut, deframeEntry, endSays, finishEntry}
+use Rattle.thm_refusals.proofs.Header.{faults-outcome, faults-numbered}
+
+module _ (state : Deframer) (buffer : List ℕ) where
+  abbrev first : List ℕ
+  first = take 16 buffer
+
+  known : Finds (knownOf state buffer) (Known state buffer)
+  unfolding knownOf
+  known =
+      choose (equal (state .error) 0)
+      (λ z. choose (below (state .held) 16)
+      (λ few. record { told = inl (few, z) })
+      (λ many. reworded
+      (λ (g : (headerError first ≡ 0) × (state .held < totalOf first)). inr (inl (omega arith, z, g .0, g .1)))
+      (more z many)
+      (each (equal (headerError first) 0) (below (state .held) (totalOf first)))))
+      (λ n. reworded
+      (λ g. inr (inr (g .0, g .1 .0, g .1 .1 .0, g .1 .1 .1)))
+      (judged n)
+      (each (equal (state .held) 16) (each (equal (headerError first) (state .error)) (each (up-to 3 (state .error)) (up-to (state .error) 8)))))
+    where
+      more : state .error ≡ 0 → (state .held < 16 → ⊥) → Known state buffer → (headerError first ≡ 0) × (state .held < totalOf first)
+      more z many (inl k) = absurd (many (k .0))
+      more z many (inr (inl k)) = (k .2, k .3)
+      more z many (inr (inr k)) = absurd (omega (arith, k .2))
+
+      judged : (state .error ≡ 0 → ⊥) → Known state buffer → (state .held ≡ 16) × ((headerError first ≡ state .error) × ((3 ≤ state .error) × (state .error ≤ 8)))
+      judged n (inl k) = absurd (n (k .1))
+      judged n (inr (inl k)) = absurd (n (k .1))
+      judged n (inr (inr k)) = (k .0, (k .1, (k .2, k .3)))
+
+  -- ---- the end of a stream
+  pub finish-exactly : Exactly (finishEntry state buffer) (ended state buffer)
+  unfolding ended
+  finish-exactly =
+      exactly (finishEntry state buffer) (ended state buffer) (λ none. clean-or-short (eqb (state .held) 0)) (λ n f. refl)
+      (when (below (length buffer) maxFrame)
+      (when (missing known)
+      (when (missing (equal (state .error) 0))
+      end)))
+    where
+      clean-or-short : (b : Bool) → endSays (cond b end.Clean (end.Short (state .held))) ≡ works
+      clean-or-short true = refl
+      clean-or-short false = refl
+
+  -- of the function itself, by its contract
+  pub finish-gives : (e : End) → Finishes state buffer e → Exactly (finishEntry state buffer) e
+  finish-gives e is = subst (Exactly (finishEntry state buffer)) (sym is) finish-exactly
+
+-- ---- the deframer
+module _ (state : Deframer) (buffer piece : List ℕ) where
+  abbrev s : List ℕ
+  s = stream (state .held) buffer piece
+
+  abbrev refusal : ℕ → Out
+  refusal = deframeRefusal state buffer piece
+
+  abbrev work : Out
+  work = moved (cut s) (state .held) buffer s
+
+  -- a header's number is 3 to 8, so a refused header moves bytes unless a refusal was held
+  header-refusal : state .error ≡ 0 → (n : ℕ) → 3 ≤ n → refusal n ≡ moved (Refused n) (state .held) buffer s
+  header-refusal z n h = rw (lt-leb n 2 h, eq-eqb (state .error) 0 z)
+
+  held-refusal : (state .error ≡ 0 → ⊥) → refusal (state .error) ≡ unmoved (state .error) state buffer
+  held-refusal n = rw (ne-eqb (state .error) 0 n) (by (leb (state .error) 2))
+    where
+      by : (b : Bool) → cond b (unmoved (state .error) state buffer) (unmoved (state .error) state buffer) ≡ unmoved (state .error) state buffer
+      by true = refl
+      by false = refl
+
+  abbrev whole : Progress
+  whole = cond (leb (totalOf (take 16 s)) (length s)) (Frame (totalOf (take 16 s))) NeedMore
+
+  advance-outcome : state .error ≡ 0 → Outcome (streamFaults s) refusal work (advance (state .held) buffer s)
+  unfolding nextFrame
+  advance-outcome z = by (ltb (length s) 16) refl
+    where
+      by : (b : Bool) → ltb (length s) 16 ≡ b → Outcome (streamFaults s) refusal work (advance (state .held) buffer s)
+      by true e =
+          rw e (under-unmet (faults (take 16 s)) (λ l. omega (arith, ltb-true (length s) 16 e)))
+      by false e =
+          let long : 16 ≤ length s = ltb-false (length s) 16 e in
+          rw e (under-met (faults (take 16 s)) long (rw (first-sixteen s long) (on (faultOf (take 16 s)) (faults-outcome (take 16 s)) (fault-code (take 16 s)))))
+        where
+          three : (n : ℕ) → Code n → 0 < n → 3 ≤ n
+          three n (inl c) p = absurd (omega arith)
+          three n (inr c) p = c .0
+
+          on : (n : ℕ) → Outcome (faults (take 16 s)) (λ n. n) 0 n → Code n
+              → Outcome (faults (take 16 s)) refusal (moved whole (state .held) buffer s) (moved (cond (eqb n 0) whole (Refused n)) (state .held) buffer s)
+          on n o c =
+              of-error (faults (take 16 s)) (faults-numbered (take 16 s)) o
+              (λ (none : n ≡ 0). rw (eq-eqb n 0 none))
+              (λ (some : 0 < n). rw (ne-eqb n 0 (omega arith)) (sym (header-refusal z n (three n c some))))
+
+  deframe-outcome : Outcome (deframeEntry state buffer piece .grounds) refusal work (deframed state buffer piece)
+  unfolding deframed
+  deframe-outcome = when (below (length buffer) maxFrame) (when (missing (known state buffer)) (by (eqb (state .error) 0) refl))
+    where
+      by : (b : Bool) → eqb (state .error) 0 ≡ b
+          → Outcome (ground (state .error) (state .error ≡ 0 → ⊥) ∷ streamFaults s) refusal work (cond (not b) (unmoved (state .error) state buffer) (advance (state .held) buffer s))
+      by true e = passed (λ n. n (eqb-true (state .error) 0 e)) (advance-outcome (eqb-true (state .error) 0 e))
+      by false e =
+          let n : state .error ≡ 0 → ⊥ = eqb-false (state .error) 0 e in
+          subst (Outcome (ground (state .error) (state .error ≡ 0 → ⊥) ∷ streamFaults s) refusal work) (held-refusal n) (stopped n)
+
+  cut-works : (p : Progress) → p ≡ cut s → progressSays p ≡ works
+  cut-works p e = rw e (on (ltb (length s) 16) (leb (totalOf (take 16 s)) (length s)))
+    where
+      on : (a b : Bool) → progressSays (cond a NeedMore (cond b (Frame (totalOf (take 16 s))) NeedMore)) ≡ works
+      on true b = refl
+      on false true = refl
+      on false false = refl
+
+  refusal-says : (n : ℕ) → progressSays (refusal n .step .progress) ≡ refuses n
+  refusal-says n = on (leb n 2) (eqb (state .error) 0)
+    where
+      on : (a b : Bool) → progressSays (cond a (unmoved n state buffer) (cond b (moved (Refused n) (state .held) buffer s) (unmoved n state buffer)) .step .progress) ≡ refuses n
+      on true b = refl
+      on false true = refl
+      on false false = refl
+
+  pub deframe-exactly : Exactly (deframeEntry state buffer piece) (deframed state buffer piece)
+  deframe-exactly =
+      exactly (deframeEntry state buffer piece) (deframed state buffer piece) (λ none. cut-works (cut s) refl) (λ n f. refusal-says n) deframe-outcome
+
+  -- of the function itself, by its contract
+  pub deframe-gives : (o : Out) → Deframes state buffer piece o → Exactly (deframeEntry state buffer piece) o
+  deframe-gives o is = subst (Exactly (deframeEntry state buffer piece)) (sym all) deframe-exactly
+    where
+      all : o ≡ deframed state buffer piece
+      all =
+          ap (λ (x : Step). record { step = x; buffer = o .buffer }) (is .0)
+          ∙ ap (λ (x : List ℕ). record { step = deframed state buffer piece .step; buffer = x }) (is .1)

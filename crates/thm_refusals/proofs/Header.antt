@@ -1,0 +1,65 @@
+-- For a user: when `trpc_header_check` gives which number. `header-check-exactly` is of any call, by its contract alone.
+-- Promised, for any bytes: 9, then 3 to 8, each exactly when its ground holds and none before it in the order does; 0 exactly when none
+-- holds.
+-- Not promised: the values of a good header, which the contract of `parse_header` says.
+-- Ruled out: a check that gives 6 where the magic is wrong, too, one that refuses a total of 65,536, and one that always gives 0.
+-- Assumes nothing.
+use Prim.Native.Nat.{ℕ, _-_, _≤_}
+use mathlib.Core.Path.{_≡_, refl, sym, subst}
+use mathlib.Core.Logic.{_⊎_, inl, inr, ⊎-elim}
+use mathlib.Core.Bool.{Bool, true, false}
+use mathlib.Core.List.{List}
+use native.Mathlib.Omega.{arith}
+use lib.Dec.{eqb}
+use lib.ListN.{length}
+use Rattle.frame.specs.Header.{maxFrame, magicOk, dataTypeOk, streamTypeOk, totalOk, headerSizeOk, reservedOk, totalOf, headerSizeOf, faultOf, headerError}
+use Rattle.refusals.specs.Grounds.{Exactly}
+use Rattle.refusals.proofs.Tests.{Told, Finds, each, either, unlike, reworded, equal, up-to, choose}
+use Rattle.refusals.proofs.Order.{Outcome, Numbered, end, unless, exactly, first-says}
+use Rattle.thm_refusals.specs.Header.{byte, Unary, faults, headerGrounds, headerCheck}
+
+module _ (h : List ℕ) where
+  data-type : Finds (dataTypeOk (byte h 3)) ((byte h 3 ≡ 0) ⊎ (byte h 3 ≡ 1))
+  unfolding dataTypeOk
+  data-type = reworded one-of (⊎-elim (λ (e : byte h 3 ≡ 0). omega arith) (λ (e : byte h 3 ≡ 1). omega arith)) (up-to (byte h 3) 1)
+    where
+      one-of : byte h 3 ≤ 1 → (byte h 3 ≡ 0) ⊎ (byte h 3 ≡ 1)
+      one-of l = by (eqb (byte h 3) 0) (equal (byte h 3) 0 .told)
+        where
+          by : (b : Bool) → Told b (byte h 3 ≡ 0) → (byte h 3 ≡ 0) ⊎ (byte h 3 ≡ 1)
+          by true e = inl e
+          by false n = inr (omega arith)
+
+  header-size : Finds (headerSizeOk (byte h 3) (totalOf h) (headerSizeOf h)) ((Unary h × (headerSizeOf h ≤ totalOf h - 16)) ⊎ ((Unary h → ⊥) × (headerSizeOf h ≡ 0)))
+  unfolding headerSizeOk
+  header-size =
+      choose (equal (byte h 3) 0)
+      (λ u. reworded (λ l. inl (u, l)) (⊎-elim (λ x. x .1) (λ x. absurd (x .0 u))) (up-to (headerSizeOf h) (totalOf h - 16)))
+      (λ n. reworded (λ z. inr (n, z)) (⊎-elim (λ x. absurd (n (x .0))) (λ x. x .1)) (equal (headerSizeOf h) 0))
+
+  pub faults-outcome : Outcome (faults h) (λ n. n) 0 (faultOf h)
+  unfolding faultOf magicOk streamTypeOk totalOk reservedOk
+  faults-outcome =
+      unless (unlike (each (equal (byte h 1) 0x09) (equal (byte h 2) 0x30)))
+      (unless (unlike data-type)
+      (unless (unlike (either (equal (byte h 3) 0) (each (up-to 1 (byte h 4)) (up-to (byte h 4) 4))))
+      (unless (unlike (each (up-to 16 (totalOf h)) (up-to (totalOf h) maxFrame)))
+      (unless (unlike header-size)
+      (unless (unlike (each (equal (byte h 15) 0) (equal (byte h 16) 0)))
+      end)))))
+
+  pub faults-numbered : Numbered (faults h)
+  faults-numbered = search arith depth 20
+
+  pub header-numbered : Numbered (headerGrounds h)
+  header-numbered = (λ g. omega arith, faults-numbered)
+
+  pub header-exactly : Exactly (headerCheck h) (headerError h)
+  unfolding headerError
+  header-exactly =
+      exactly (headerCheck h) (headerError h) (λ none. refl) (first-says (headerGrounds h) header-numbered)
+      (unless (unlike (equal (length h) 16)) faults-outcome)
+
+  -- of the function itself: its contract ensures r ≡ headerError h
+  pub header-check-exactly : (r : ℕ) → r ≡ headerError h → Exactly (headerCheck h) r
+  header-check-exactly r e = subst (Exactly (headerCheck h)) (sym e) header-exactly

@@ -1,0 +1,108 @@
+-- For a user: when `read` gives which number. `read-gives` is of any call, by its contract alone.
+-- Promised, for any kind, frame and row numbers: 16; 9; 3 to 8; 9; the grounds of the fields from left to right, 10 to 14 (`Fields`); 15;
+-- each exactly when its ground holds and none before it in the order does. Where none holds, the record and its parts are handed over. All
+-- that is left, the row numbers too, is said for each case.
+-- Not promised: what a record's fields are, which the definition of reading (crates `decoder`, `message`) and the round trip say.
+-- Ruled out: a reader that gives 9 for a frame of the wrong kind whose header is bad, one that leaves row numbers after 10, and one that
+-- clears them after 9.
+-- Assumes nothing.
+use Prim.Native.Nat.{ℕ, _<_, _≤_}
+use mathlib.Core.Path.{_≡_, refl, sym, subst}
+use mathlib.Core.Logic.{inl, inr}
+use mathlib.Core.Bool.{Bool, true, false, cond, _&&_}
+use mathlib.Core.List.{List, [], _∷_, _++_}
+use native.Mathlib.Omega.{arith}
+use borrow.Author.Tests.{eq-eqb, le-leb, lt-leb}
+use lib.Dec.{eqb, leb}
+use lib.ListN.{length, take, getD}
+use Rattle.frame.specs.Header.{faultOf, totalOf, idOf}
+use Rattle.frame.proofs.Codes.{first-sixteen, Code, fault-code}
+use Rattle.decoder.specs.Rows.{rowNumbers}
+use Rattle.decoder.specs.Fields.{Result, ok, refused}
+use Rattle.decoder.proofs.Results.{Sound, message-sound}
+use Rattle.message.specs.Records.{schemaOf, recordOf, attachmentSizeOf}
+use Rattle.message.specs.Frames.{Reading, headerOf, bodyOf, kindFits, refusedUntouched, refusedCleared, withAttachment, answered, readFrame}
+use Rattle.message.specs.declared.Kind.{Kind}
+use Rattle.message.specs.declared.Kind.the-variants as kinds
+use Rattle.stream_trace.specs.Trace.{Reads}
+use Rattle.stream_trace.proofs.Traced.{all-read}
+use Rattle.refusals.specs.Grounds.{Ground, ground, works, refuses, Exactly}
+use Rattle.refusals.proofs.Tests.{Finds, each, unlike, equal, below, at-most}
+use Rattle.refusals.proofs.Order.{Outcome, end, when, when-not, unless, unless-two, unless-error, followed, exactly}
+use Rattle.thm_refusals.specs.Header.{byte, faults}
+use Rattle.thm_refusals.specs.Reader.{OfKind, fieldGrounds, fieldsRead, stateOf, AttachmentLarger, answerSays, readRefusal, readWork}
+use Rattle.thm_refusals.specs.Reader.{readEntry}
+use Rattle.thm_refusals.specs.Fields.{resultSays}
+use Rattle.thm_refusals.proofs.Header.{faults-outcome, faults-numbered}
+use Rattle.thm_refusals.proofs.Fields.{message-decides}
+
+pub of-kind : (kind : Kind) (f : List ℕ) → Finds (kindFits kind (getD f 2 0) (getD f 3 0)) (OfKind kind f)
+unfolding kindFits
+of-kind kinds.Request f = equal (byte f 3) 0
+of-kind kinds.Response f = equal (byte f 3) 0
+of-kind kinds.Init f = each (equal (byte f 3) 1) (equal (byte f 4) 1)
+of-kind kinds.Data f = each (equal (byte f 3) 1) (equal (byte f 4) 2)
+of-kind kinds.Feedback f = each (equal (byte f 3) 1) (equal (byte f 4) 3)
+of-kind kinds.Close f = each (equal (byte f 3) 1) (equal (byte f 4) 4)
+
+module _ (kind : Kind) (f lent : List ℕ) where
+  -- ---- the fields, and 15
+  attachment-outcome : (x : Result) → resultSays x ≡ works
+      → Outcome (ground 15 (AttachmentLarger kind f x) ∷ []) (readRefusal lent) (readWork kind f lent (stateOf x)) (answered kind f lent x)
+  unfolding answered withAttachment
+  attachment-outcome (ok st) e = unless (at-most (attachmentSizeOf kind (st .slots)) (length (bodyOf kind f))) end
+  attachment-outcome (refused code) e = let z : _≡_ {A = ℕ} 0 1 = cc in absurd (omega arith)
+
+  fields-refused : (x : Result) → Sound x → (n : ℕ) → resultSays x ≡ refuses n → answered kind f lent x ≡ readRefusal lent n
+  unfolding answered
+  fields-refused (ok st) s n e = let z : _≡_ {A = ℕ} 0 1 = cc in absurd (omega arith)
+  fields-refused (refused code) s n e =
+      let same : code ≡ n = cc in
+      rw (← same, le-leb 10 code (s .0), le-leb code 15 (omega (arith, s .1)))
+
+  pub fields-outcome : Outcome (fieldGrounds kind f ++ ground 15 (AttachmentLarger kind f (fieldsRead kind f)) ∷ []) (readRefusal lent)
+      (readWork kind f lent (stateOf (fieldsRead kind f))) (answered kind f lent (fieldsRead kind f))
+  fields-outcome =
+      followed (fieldGrounds kind f) (message-decides f (schemaOf kind) 16 (headerOf kind f)) (attachment-outcome (fieldsRead kind f))
+      (fields-refused (fieldsRead kind f) (message-sound f (schemaOf kind) 16 (headerOf kind f)))
+
+  -- ---- the header
+  header-number : (e : ℕ) → Code e → (later : Reading) → cond (eqb e 0) later (readRefusal lent e) ≡ cond (eqb e 0) later (refusedUntouched e lent)
+  header-number e (inl z) later = rw (eq-eqb e 0 z)
+  header-number e (inr r) later = rw (lt-leb 10 e (omega arith))
+
+  pub header-outcome : {hs : List Ground} {work later : Reading} (e : ℕ) → Code e → Outcome (faults (take 16 f)) (λ n. n) 0 e
+      → Outcome hs (readRefusal lent) work later
+      → Outcome (faults (take 16 f) ++ hs) (readRefusal lent) work (cond (eqb e 0) later (refusedUntouched e lent))
+  header-outcome {hs} {work} {later} e c o l =
+      subst (Outcome (faults (take 16 f) ++ hs) (readRefusal lent) work) (header-number e c later)
+      (unless-error (faults (take 16 f)) e (faults-numbered (take 16 f)) o l)
+
+  -- ---- all
+  read-outcome : Outcome (readEntry kind f lent .grounds) (readRefusal lent) (readEntry kind f lent .work) (readFrame kind f lent)
+  unfolding readFrame
+  read-outcome =
+      when (below (length lent) rowNumbers)
+      (when-not (below (length f) 16)
+      (λ (short : length f < 16 → ⊥). let long : 16 ≤ length f = omega arith in
+      rw (first-sixteen f long)
+      (header-outcome (faultOf (take 16 f)) (fault-code (take 16 f)) (faults-outcome (take 16 f))
+      (unless-two (unlike (equal (length f) (totalOf f))) (unlike (of-kind kind f))
+      fields-outcome))))
+
+  pub refusal-says : (n : ℕ) → answerSays (readRefusal lent n .answer) ≡ refuses n
+  refusal-says n = by (leb 10 n && leb n 15)
+    where
+      by : (b : Bool) → answerSays (cond b (refusedCleared n lent) (refusedUntouched n lent) .answer) ≡ refuses n
+      by true = refl
+      by false = refl
+
+  pub read-exactly : Exactly (readEntry kind f lent) (readFrame kind f lent)
+  read-exactly =
+      exactly (readEntry kind f lent) (readFrame kind f lent)
+      (λ none. refl)
+      (λ n first. refusal-says n) read-outcome
+
+  -- of the function itself, by its contract
+  pub read-gives : (x : Reading) → Reads kind f lent x → Exactly (readEntry kind f lent) x
+  read-gives x is = subst (Exactly (readEntry kind f lent)) (sym (all-read kind f lent x is)) read-exactly

@@ -1,0 +1,60 @@
+-- The fixed header. "Order: judge 9, then 3 to 8."
+-- Assumes nothing.
+use Prim.Native.Nat.{ℕ, _-_, _≤_}
+use mathlib.Core.Path.{_≡_}
+use mathlib.Core.Logic.{_⊎_}
+use mathlib.Core.List.{List, [], _∷_}
+use lib.ListN.{length, getD}
+use Rattle.frame.specs.Header.{maxFrame, totalOf, headerSizeOf}
+use Rattle.refusals.specs.Grounds.{Ground, ground, Entry, numbered}
+
+-- the paper's byte n of a header, counted from 1: n is never 0 below
+abbrev pub byte : List ℕ → ℕ → ℕ
+byte h n = getD h (n - 1) 0
+
+-- "3 | data type | 0 unary, 1 stream"
+abbrev pub Unary : List ℕ → Type 0
+Unary h = byte h 3 ≡ 0
+
+-- ---- "3-8 | header judge | magic; data type; stream type; total; header size; reserved": when each is wrong
+
+-- "1-2 | magic | 09 30"
+abbrev pub WrongMagic : List ℕ → Type 0
+WrongMagic h = (byte h 1 ≡ 0x09) × (byte h 2 ≡ 0x30) → ⊥
+
+-- "3 | data type | 0 unary, 1 stream"
+abbrev pub WrongDataType : List ℕ → Type 0
+WrongDataType h = (byte h 3 ≡ 0) ⊎ (byte h 3 ≡ 1) → ⊥
+
+-- "4 | stream type | 1 Init, 2 Data, 3 Feedback, 4 Close; ignored in unary"
+abbrev pub WrongStreamType : List ℕ → Type 0
+WrongStreamType h = Unary h ⊎ ((1 ≤ byte h 4) × (byte h 4 ≤ 4)) → ⊥
+
+-- "5-8 | total size, these 16 included | 16 to 65,536"
+abbrev pub WrongTotal : List ℕ → Type 0
+WrongTotal h = (16 ≤ totalOf h) × (totalOf h ≤ maxFrame) → ⊥
+
+-- "9-10 | header size | unary: at most total less 16; stream: 0". A total below 16, of which 16 cannot be taken, is 6 before.
+abbrev pub WrongHeaderSize : List ℕ → Type 0
+WrongHeaderSize h = (Unary h × (headerSizeOf h ≤ totalOf h - 16)) ⊎ ((Unary h → ⊥) × (headerSizeOf h ≡ 0)) → ⊥
+
+-- "15-16 | reserved | both 0"
+abbrev pub ReservedUsed : List ℕ → Type 0
+ReservedUsed h = (byte h 15 ≡ 0) × (byte h 16 ≡ 0) → ⊥
+
+abbrev pub faults : List ℕ → List Ground
+faults h =
+    ground 3 (WrongMagic h)
+    ∷ ground 4 (WrongDataType h)
+    ∷ ground 5 (WrongStreamType h)
+    ∷ ground 6 (WrongTotal h)
+    ∷ ground 7 (WrongHeaderSize h)
+    ∷ ground 8 (ReservedUsed h)
+    ∷ []
+
+-- ---- `trpc_header_check`: "9 | length isn't the total (judge: not 16)"; "gets a number: 0 or the refusal"
+abbrev pub headerGrounds : List ℕ → List Ground
+headerGrounds h = ground 9 (length h ≡ 16 → ⊥) ∷ faults h
+
+abbrev pub headerCheck : List ℕ → Entry ℕ
+headerCheck h = numbered (headerGrounds h)
