@@ -1,7 +1,7 @@
 /*
- * A small controller. A client's stream arrives in pieces of odd sizes; the frames are cut from it, the requests are read, and
- * a job is queued for each. Then the jobs are taken, the one that is due first before the others, and each is answered with a
- * response frame. bindings/rust/examples/controller.rs does the same and prints the same.
+ * A small controller. A client's stream arrives in pieces of odd sizes; the frames are cut from it, the requests are
+ * read, and a job is queued for each. Then the jobs are taken, the one that is due first before the others, and each is
+ * answered with a response frame. bindings/rust/examples/controller.rs does the same and prints the same.
  *
  *     cc -Iinclude examples/controller.c target/staticlib/lib{bekurapi,queue_in_place}.a -o target/controller
  *     target/controller
@@ -38,10 +38,7 @@ struct source {
     uint32_t length;
 };
 
-static const struct source no_source;
-static const struct trpc_row no_row;
-
-/* Puts a text behind the others, and returns where it stands. */
+/* Puts a text after the others, and returns where it is. */
 static struct trpc_span append(struct source *source, const char *text)
 {
     struct trpc_span span = {source->length, (uint32_t)strlen(text)};
@@ -51,15 +48,10 @@ static struct trpc_span append(struct source *source, const char *text)
     return span;
 }
 
-/* Writes a frame, with room for one row, and returns its size. That one is refused would be this program's fault. */
-static size_t write_frame(uint32_t kind, const void *record, const struct source *source, const struct trpc_row *row,
-                          const char *body, uint8_t *out, size_t room)
+/* The size of the frame that a writer has written. That one is refused would be this program's fault. */
+static size_t written(uint32_t error, size_t size)
 {
-    size_t size;
-    uint32_t error = trpc_write(kind, record, TRPC_RECORD_NUMBERS, source->bytes, source->length, (const uint32_t *)row, 4,
-                                (const uint8_t *)body, strlen(body), out, room, &size);
-
-    if (error != 0) {
+    if (error != TRPC_WRITE_DONE) {
         fprintf(stderr, "controller: a frame was refused with %" PRIu32 "\n", error);
         exit(1);
     }
@@ -77,8 +69,11 @@ static size_t write_order(const struct order *order, uint8_t *out, size_t room)
         .timeout = order->timeout,
         .func = append(&source, order->func),
     };
+    size_t size;
+    uint32_t error = trpc_write_request(&request, source.bytes, source.length, (const uint32_t *)&row, 4,
+                                        (const uint8_t *)order->body, strlen(order->body), out, room, &size);
 
-    return write_frame(TRPC_REQUEST, &request, &source, &row, order->body, out, room);
+    return written(error, size);
 }
 
 /* A Feedback frame, which is no request, then the orders, then the beginning of a frame that never gets whole. */
@@ -86,8 +81,10 @@ static size_t write_stream(uint8_t *out, size_t room)
 {
     static const uint8_t beginning[] = {0x09, 0x30, 0, 0, 0, 0, 0};
     struct trpc_feedback feedback = {.id = 5, .window_size_increment = 300};
-    size_t length = write_frame(TRPC_FEEDBACK, &feedback, &no_source, &no_row, "", out, room);
+    size_t length;
+    uint32_t error = trpc_write_feedback(&feedback, NULL, 0, NULL, 0, NULL, 0, out, room, &length);
 
+    length = written(error, length);
     for (size_t i = 0; i < sizeof orders / sizeof *orders; i++)
         length += write_order(&orders[i], out + length, room - length);
     memcpy(out + length, beginning, sizeof beginning);
@@ -115,7 +112,7 @@ static void print_request(const struct trpc_request *request, const uint8_t *fra
 /* The words for enum trpc_frame_type. */
 static const char *const type_names[] = {"unary", "init", "data", "feedback", "close"};
 
-/* Whether a frame may be a request; tells of one that is not. The deframer has found its header good. */
+/* Whether a frame may be a request; reports one that is not. The deframer has found its header good. */
 static int is_unary(const uint8_t *frame)
 {
     uint32_t type, id;
@@ -137,8 +134,7 @@ static void accept_frame(struct trpc_queue *queue, const uint8_t *frame, size_t 
 
     if (!is_unary(frame))
         return;
-    error = trpc_read(TRPC_REQUEST, frame, size, (uint32_t *)rows, TRPC_ROW_NUMBERS, (uint32_t *)&request,
-                      TRPC_RECORD_NUMBERS);
+    error = trpc_read_request(frame, size, (uint32_t *)rows, TRPC_ROW_NUMBERS, &request);
     if (error != 0) {
         printf("bad, error %" PRIu32 "\n", error);
         return;
@@ -209,10 +205,13 @@ static void receive(struct trpc_queue *queue, const uint8_t *stream, size_t leng
 /* Answers a job. */
 static void answer(const struct trpc_job *job)
 {
+    static const uint8_t done[] = {'d', 'o', 'n', 'e'};
     struct trpc_response response = {.id = job->request, .request_id = job->request};
     uint8_t frame[64];
-    size_t size = write_frame(TRPC_RESPONSE, &response, &no_source, &no_row, "done", frame, sizeof frame);
+    size_t size;
+    uint32_t error = trpc_write_response(&response, NULL, 0, NULL, 0, done, sizeof done, frame, sizeof frame, &size);
 
+    size = written(error, size);
     printf("request %" PRIu32 " is due first; its response:", job->request);
     for (size_t i = 0; i < size; i++)
         printf(" %02x", frame[i]);
@@ -224,11 +223,17 @@ int main(void)
     static struct trpc_queue queue;
     static uint8_t stream[1024];
     struct trpc_job job;
+    uint32_t error;
 
     trpc_queue_init(&queue);
     receive(&queue, stream, write_stream(stream, sizeof stream));
-    while (trpc_queue_take(&queue, &job) == TRPC_QUEUE_DONE)
+    while ((error = trpc_queue_take(&queue, &job)) == TRPC_QUEUE_DONE)
         answer(&job);
+    if (error != TRPC_QUEUE_EMPTY) {
+        /* 24: something other than these functions has written to the queue. Jobs may wait in it. */
+        printf("the queue is refused with %" PRIu32 "\n", error);
+        return 1;
+    }
     printf("nothing waits\n");
     return 0;
 }

@@ -1,18 +1,32 @@
 /*
  * Bekurapi's interface for C: checks, cuts, reads and writes tRPC frames, and keeps a queue of waiting jobs.
  *
- * Link with libbekurapi.a and, for the queue, libqueue_in_place.a, which `rt staticlib bekurapi` and `rt staticlib queue_in_place`
- * write to target/staticlib/:
+ * Link with libbekurapi.a and, for the queue, libqueue_in_place.a. `rt staticlib bekurapi` and
+ * `rt staticlib queue_in_place` write them to target/staticlib/:
  *
  *     cc -Iinclude program.c target/staticlib/libbekurapi.a target/staticlib/libqueue_in_place.a
  *
- * Of every function: each pointer refers to as many bytes or numbers as its length says, and is not null, even where the
- * length is 0. What a function writes to overlaps nothing else that it is given, and nobody else writes to what it reads during
- * the call. Any other argument is taken: a bad one is refused with an error code. No function keeps state of its own, and each
- * may be called from any thread.
+ * Of every function:
  *
- * An error code is given exactly when its ground holds and none that comes before it in the order does. The order of each
- * function's codes stands at its enum.
+ * - Pointers. One with a length beside it refers to as many bytes or numbers as the length says, and may be null where
+ *   the length is 0. Any other refers to one number or struct, and is not null.
+ * - Overlap. What a function writes to overlaps nothing else that it is given. During the call nobody else reads or
+ *   writes it, and nobody writes to what the function only reads.
+ * - Arguments. Beyond that every argument is taken: a bad one is refused with an error code.
+ * - Error codes. One is returned exactly when its ground holds and the ground of none before it in the order does. The
+ *   order is written at the enum of the codes. 0 is returned where no ground holds.
+ * - What is left. Each function says what everything lent to it is afterwards, also after a refusal. What is lent as
+ *   const is never changed.
+ * - State. No function has state of its own, and none keeps a pointer. Each may be called from any thread.
+ * - System. No function allocates, waits or calls the system. memcpy, memmove and memset are those of the program.
+ * - Stack. A call needs at most 6 KiB, beside what these three need.
+ * - Time. trpc_header_check, trpc_header_parse, trpc_finish and trpc_queue_init take a fixed time, trpc_deframe one in
+ *   proportion to the bytes that it takes. Each other call takes at most a time in proportion to what it is lent, and
+ *   compares keys, or jobs, two at a time: up to 2,016 times, for there are at most 64. After that trpc_queue_add and
+ *   trpc_queue_cancel look through up to 64 jobs, and trpc_queue_take compares due times up to 63 times. A reader's
+ *   keys lie in one frame. A writer's may each be as long as the source, and are compared before the frame's size is
+ *   known: so a write that is refused may take long. Whoever writes keys that a stranger chose bounds their lengths
+ *   first.
  */
 #ifndef BEKURAPI_H
 #define BEKURAPI_H
@@ -28,30 +42,30 @@ extern "C" {
 #define TRPC_HEADER_SIZE 16
 
 /*
- * The error codes of a fixed header. The header's bytes are counted from 1, its numbers are big-endian.
+ * The error codes of trpc_header_check and trpc_header_parse. The header's bytes are counted from 1, its numbers are
+ * big-endian.
+ *
+ * Order: TRPC_HEADER_LENGTH, then the others by rising number: TRPC_HEADER_MAGIC, TRPC_HEADER_DATA_TYPE,
+ * TRPC_HEADER_STREAM_TYPE, TRPC_HEADER_TOTAL, TRPC_HEADER_HEADER_SIZE, TRPC_HEADER_RESERVED.
  */
 enum trpc_header_error {
     TRPC_HEADER_GOOD = 0,        /* a good header */
-    TRPC_HEADER_MAGIC = 3,       /* magic: bytes 1-2 are not 09 30 */
-    TRPC_HEADER_DATA_TYPE = 4,   /* data type: byte 3 is neither 0 (unary) nor 1 (stream) */
-    TRPC_HEADER_STREAM_TYPE = 5, /* stream type: byte 4 of a stream frame is not 1 (Init), 2 (Data), 3 (Feedback) or 4 (Close) */
-    TRPC_HEADER_TOTAL = 6,       /* total: bytes 5-8, the frame's size with these 16, are not 16 to 65,536 */
-    TRPC_HEADER_HEADER_SIZE = 7, /* header size: bytes 9-10 are more than total less 16 (unary), or not 0 (stream) */
-    TRPC_HEADER_RESERVED = 8,    /* reserved: bytes 15-16 are not both 0 */
-    TRPC_HEADER_LENGTH = 9       /* length: not 16 bytes were given */
+    TRPC_HEADER_MAGIC = 3,       /* bytes 1-2 are not 09 30 */
+    TRPC_HEADER_DATA_TYPE = 4,   /* byte 3 is neither 0 (unary) nor 1 (stream) */
+    TRPC_HEADER_STREAM_TYPE = 5, /* stream frame: byte 4 is not 1 (Init), 2 (Data), 3 (Feedback) or 4 (Close) */
+    TRPC_HEADER_TOTAL = 6,       /* bytes 5-8, the frame's size with these 16, are not 16 to 65,536 */
+    TRPC_HEADER_HEADER_SIZE = 7, /* bytes 9-10 are more than the total less 16 (unary), or not 0 (stream) */
+    TRPC_HEADER_RESERVED = 8,    /* bytes 15-16 are not both 0 */
+    TRPC_HEADER_LENGTH = 9       /* not 16 bytes were given */
 };
 
 /*
  * Checks a fixed header.
  *
- * bytes  the header: `len` bytes that can be read, and that nobody writes during the call. Not a null pointer, even where len
- *        is 0. None of the bytes is changed.
+ * bytes  the header.
  * len    how many bytes there are. Any number is taken; only 16 can be good.
  *
- * Returns 0 for a good header, else the code of the first rule that is broken: TRPC_HEADER_LENGTH comes first, and then the
- * others in the order of their numbers. The bytes behind the header, the frame's content, are not looked at.
- *
- * The function keeps no state and may be called from any thread.
+ * Returns a code of enum trpc_header_error. The bytes after the header, the frame's content, are not looked at.
  *
  *     static const uint8_t header[16] = {0x09, 0x30, 0, 0, 0, 0, 0, 16, 0, 0, 0, 0, 0, 7, 0, 0};
  *
@@ -62,8 +76,8 @@ enum trpc_header_error {
 uint32_t trpc_header_check(const uint8_t *bytes, size_t len);
 
 /*
- * What a fixed header says a frame is. The numbers are those of the stream type. A unary frame does not say whether it is a
- * request or a response.
+ * What a fixed header says a frame is. The numbers are those of the stream type. A unary frame does not say whether it
+ * is a request or a response: the caller knows.
  */
 enum trpc_frame_type {
     TRPC_FRAME_UNARY = 0,
@@ -74,19 +88,19 @@ enum trpc_frame_type {
 };
 
 /*
- * Reads a fixed header: for a caller that has a frame and is to choose the kind to read it as.
+ * Reads a fixed header: for a caller that has a frame and is to choose its reader.
  *
- * bytes        the header, as for trpc_header_check: the first 16 bytes of a frame. None of them is changed.
+ * bytes, len   the header, as for trpc_header_check: the first 16 bytes of a frame.
  * frame_type   receives one of enum trpc_frame_type.
  * total        receives the frame's size, its fixed header included.
  * header_size  receives the size of a unary frame's header message; 0 for a stream frame.
- * id           receives the request id or stream id.
+ * id           receives the request id or stream id, bytes 11-14: the one to answer with.
  *
- * Returns 0 for a good header, else the code that trpc_header_check returns. After a refusal all four are 0.
+ * Returns a code of enum trpc_header_error, the one that trpc_header_check returns. After a refusal all four are 0.
  *
  *     code = trpc_header_parse(frame, TRPC_HEADER_SIZE, &frame_type, &total, &header_size, &id);
  *     if (code == 0 && frame_type == TRPC_FRAME_FEEDBACK) {
- *         // a Feedback frame of the stream id: trpc_read(TRPC_FEEDBACK, frame, total, ..)
+ *         // a Feedback frame of the stream id: trpc_read_feedback(frame, total, ..)
  *     }
  */
 uint32_t trpc_header_parse(const uint8_t *bytes, size_t len, uint32_t *frame_type, size_t *total, size_t *header_size,
@@ -98,30 +112,46 @@ uint32_t trpc_header_parse(const uint8_t *bytes, size_t len, uint32_t *frame_typ
 #define TRPC_MAX_FRAME 65536
 
 /*
- * The error codes of trpc_deframe and trpc_finish, in their order: TRPC_DEFRAME_BUFFER, TRPC_DEFRAME_STATE, the code of a header
- * that was refused before, and then the codes 3 to 8 of a fixed header, rising.
+ * The error codes of trpc_deframe and trpc_finish; a header that is refused has its code of enum trpc_header_error.
+ *
+ * Order of trpc_deframe: TRPC_DEFRAME_BUFFER, TRPC_DEFRAME_STATE, the code of a header that was refused before, then
+ * the codes 3 to 8 of the header whose 16th byte arrives, rising.
+ *
+ * Order of trpc_finish: TRPC_DEFRAME_BUFFER, TRPC_DEFRAME_STATE, the code of a header that was refused before.
+ *
+ * A state, `held` and `error`, is known with a buffer if one of these holds:
+ *
+ * - Under 16 bytes are held, and the error is 0.
+ * - 16 bytes or more are held, the error is 0, the first 16 are a good header, and its total is more than are held.
+ * - Exactly 16 bytes are held, the error is 3 to 8, and it is the code of these 16 as a header.
  */
 enum trpc_deframe_error {
     TRPC_DEFRAME_DONE = 0,
     TRPC_DEFRAME_BUFFER = 1, /* the buffer is under 65,536 bytes */
-    TRPC_DEFRAME_STATE = 2   /* the state is not known: no call can have left it with this buffer */
+    TRPC_DEFRAME_STATE = 2   /* the state is not known */
 };
 
 /*
- * One call of the deframer: takes bytes of the piece to the buffer, behind those held, until a frame is whole, a header is refused
- * or the piece ends. A header is judged when its 16th byte arrives, never sooner.
+ * One call of the deframer: takes bytes of the piece to the buffer, after those held, until a frame is whole, a header
+ * is refused or the piece ends. A header is judged when its 16th byte arrives, never sooner.
  *
- * held, error  the state: how many bytes of an unfinished frame stand at the start of the buffer, and the code of the header that
- *              ended the stream, 0 for none. Both are 0 when fresh; the caller keeps them, with the buffer, from call to call.
+ * held, error  the state: how many bytes of an unfinished frame are at the start of the buffer, and the code of the
+ *              header that ended the stream, 0 for none. Both are 0 when fresh. The caller keeps them, with the buffer,
+ *              from call to call.
  * buffer       at least TRPC_MAX_FRAME bytes. Bytes that received nothing are unchanged.
  * piece        the bytes that arrived, any number of them, even none.
- * taken        receives how many bytes of the piece were taken; the rest is to be offered again.
- * size         receives the size of a whole frame, which stands at the start of the buffer until the next call; 0 where there is
- *              none.
+ * taken        receives how many bytes of the piece were taken. The rest is to be offered again.
+ * size         receives the size of a whole frame, which is at the start of the buffer until the next call; 0 where
+ *              there is none.
  *
- * Returns the error code, 0 for none. With 0 and *size 0 the piece is used up and more is needed. After a whole frame nothing is
- * held. A refused header stays in the buffer with 16 held: later calls repeat its code and take nothing. TRPC_DEFRAME_BUFFER and
- * TRPC_DEFRAME_STATE leave the state and the buffer as given, and take nothing.
+ * Returns 0, or a code of enum trpc_deframe_error or enum trpc_header_error.
+ *
+ * - 0 and *size not 0: a whole frame. Nothing is held.
+ * - 0 and *size 0: the piece is used up and more is needed.
+ * - 3 to 8: a header is refused. It stays at the start of the buffer, *held is 16 and *error is the code. *taken is how
+ *   many bytes of it this call took. Later calls return the same code, take nothing and leave state and buffer as they
+ *   are.
+ * - 1 and 2: *held, *error and all of the buffer are as they were, *taken and *size are 0.
  *
  *     static uint8_t buffer[TRPC_MAX_FRAME];
  *     size_t held = 0, taken, size, at = 0;
@@ -140,46 +170,47 @@ uint32_t trpc_deframe(size_t *held, uint32_t *error, uint8_t *buffer, size_t buf
 /*
  * The end of the stream, if no byte comes after those that the deframer took.
  *
- * held, error, buffer  as trpc_deframe left them; none is changed.
- * short_by             receives how many bytes of an unfinished frame are held: 0 is a clean end. 0 where a code is returned.
+ * held, error, buffer  as trpc_deframe left them.
+ * short_by             receives how many bytes of an unfinished frame are held: 0 is a clean end. 0 after a refusal.
  *
- * Returns the error code, 0 for none: the same codes in the same order as trpc_deframe.
+ * Returns 0, or a code of enum trpc_deframe_error or enum trpc_header_error.
  *
  *     code = trpc_finish(held, error, buffer, sizeof buffer, &short_by);
  *     if (code == 0 && short_by == 0) {
- *         // the stream ended behind a whole frame
+ *         // the stream ended after a whole frame, or before the first
  *     }
  */
 uint32_t trpc_finish(size_t held, uint32_t error, const uint8_t *buffer, size_t buffer_len, size_t *short_by);
 
 /* ---- Records ---- */
 
-/* The kinds of frames. A unary frame does not say whether it is a request or a response: the caller knows. */
-enum trpc_kind {
-    TRPC_REQUEST = 0,
-    TRPC_RESPONSE = 1,
-    TRPC_INIT = 2,
-    TRPC_DATA = 3,
-    TRPC_FEEDBACK = 4,
-    TRPC_CLOSE = 5
-};
-
-/* How many numbers a record has, and how many row numbers the reader wants: four to a row, at most 64 rows. */
-#define TRPC_RECORD_NUMBERS 24
+/* How many row numbers a reader wants: four to a row, at most 64 rows. */
 #define TRPC_ROW_NUMBERS 256
 
-/* A part of the frame or of the writer's source: where it starts, counted from the first byte, and its length. An empty one that
-   was read is 0, 0. */
+/*
+ * A part of the frame that was read, or of a writer's source: where it starts, counted from the first byte, and its
+ * length. One that was read lies within the frame; an empty one is 0, 0.
+ */
 struct trpc_span {
     uint32_t start;
     uint32_t len;
 };
 
 /*
- * The record of each kind: 24 numbers of 32 bits, passed as (uint32_t *)&record, TRPC_RECORD_NUMBERS. `id` is the request id or
- * stream id of the fixed header, `rows` is how many rows of the map there are. header, body and attachment are for the reader
- * alone: the writer does not look at them. `zero` is 0 when read, and not looked at by the writer. A present mark is 0 or 1 when
- * read, and any number but 0 marks a part as present when written. Enumerated numbers pass through as they are.
+ * The record of each kind, 24 numbers of 32 bits.
+ *
+ * id          the request id or stream id of the fixed header, bytes 11-14: the one to answer with.
+ * request_id  the message's own request id, which is only handed over. A writer writes id and request_id each as it is:
+ *             a request with only .request_id = 7 is written as a frame with the id 0.
+ * rows        how many rows of the map there are.
+ * header, body, attachment
+ *             what a reader found where; a writer does not look at them. The attachment is the last attachment_size
+ *             bytes of the body. In Init, Feedback and Close the message is the header, and the others are empty. Data
+ *             has only a body.
+ * .._present  0 or 1 when read. When written, any number but 0 marks a part as present.
+ * zero        0 when read; a writer does not look at it.
+ *
+ * Enumerated numbers pass through as they are.
  */
 struct trpc_request {
     uint32_t id;
@@ -220,6 +251,16 @@ struct trpc_response {
     uint32_t zero[5];
 };
 
+/*
+ * Init's message has two parts, each with a mark, and three numbers of its own.
+ *
+ * request_meta   caller, callee, func, message_type and the rows of the map.
+ * response_meta  ret and error_msg.
+ * its own        init_window_size, content_type and content_encoding.
+ *
+ * In a part that is not marked as present the numbers are 0 and the byte fields are empty, and there are no rows
+ * without request_meta. So a reader leaves it; to a writer anything else is a ground of TRPC_WRITE_ROWS.
+ */
 struct trpc_init {
     uint32_t id;
     uint32_t rows;
@@ -282,10 +323,12 @@ struct trpc_row {
 /* ---- Reading a frame ---- */
 
 /*
- * The error codes of trpc_read, in their order: TRPC_READ_ROWS; TRPC_READ_KIND for fewer than 16 bytes; the codes 3 to 8 of the
- * fixed header; TRPC_READ_KIND; then the fields from left to right, at each place TRPC_READ_VARINT, TRPC_READ_TAG and
- * TRPC_READ_DEPTH of the tag, TRPC_READ_VARINT and TRPC_READ_LENGTH of the value, and TRPC_READ_ENTRIES before an entry's inside;
- * TRPC_READ_ATTACHMENT last.
+ * The error codes of the readers; a fixed header that is refused has its code of enum trpc_header_error.
+ *
+ * Order: TRPC_READ_ROWS; TRPC_READ_KIND for fewer than 16 bytes; the codes 3 to 8 of the fixed header, rising;
+ * TRPC_READ_KIND for its other grounds; then the fields from left to right, at each place TRPC_READ_VARINT,
+ * TRPC_READ_TAG and TRPC_READ_DEPTH of the tag, TRPC_READ_VARINT and TRPC_READ_LENGTH of the value, and
+ * TRPC_READ_ENTRIES before an entry's inside; TRPC_READ_ATTACHMENT last.
  */
 enum trpc_read_error {
     TRPC_READ_DONE = 0,
@@ -300,77 +343,100 @@ enum trpc_read_error {
 };
 
 /*
- * Reads a frame as a kind.
+ * Each reads a frame as its kind.
  *
- * kind    one of enum trpc_kind. Any other number is a kind that no frame is of: TRPC_READ_KIND, in its place in the order.
- * frame   one whole frame, as trpc_deframe leaves it. None of its bytes is changed.
- * rows    at least TRPC_ROW_NUMBERS numbers. They receive the rows of the map, four numbers each (struct trpc_row), in order of
- *         first appearance, and zeros behind them up to 256 numbers, for every kind. Numbers past 256 are untouched. After the
- *         codes 10 to 15 the first 256 are 0; all other codes leave the rows untouched.
- * record  receives the record's 24 numbers, or as many as fit where it is shorter; numbers behind the 24 are untouched. All 24
- *         are 0 after a refusal.
+ * frame   one whole frame, as trpc_deframe leaves it.
+ * rows    at least TRPC_ROW_NUMBERS numbers. The first 256 receive the rows of the map, four numbers each (struct
+ *         trpc_row), in order of first appearance, and zeros after them, for every kind. Numbers past 256 are
+ *         untouched.
+ * record  receives the record. Its values before the call don't matter.
  *
- * Returns the error code, 0 for none.
+ * Returns 0, or a code of enum trpc_read_error or enum trpc_header_error. After a refusal all of the record is 0. After
+ * the codes 10 to 15 the first 256 row numbers are 0; all other codes leave the rows untouched.
  *
  *     struct trpc_request request;
  *     uint32_t rows[TRPC_ROW_NUMBERS];
  *
- *     if (trpc_read(TRPC_REQUEST, frame, frame_len, rows, TRPC_ROW_NUMBERS, (uint32_t *)&request, TRPC_RECORD_NUMBERS) == 0) {
+ *     if (trpc_read_request(frame, frame_len, rows, TRPC_ROW_NUMBERS, &request) == TRPC_READ_DONE) {
  *         // the function's name is request.func.len bytes at frame + request.func.start
  *         // the first row's key is rows[1] bytes at frame + rows[0], if request.rows is not 0
  *     }
  */
-uint32_t trpc_read(uint32_t kind, const uint8_t *frame, size_t frame_len, uint32_t *rows, size_t rows_len, uint32_t *record,
-                   size_t record_len);
+uint32_t trpc_read_request(const uint8_t *frame, size_t frame_len, uint32_t *rows, size_t rows_len,
+                           struct trpc_request *record);
+uint32_t trpc_read_response(const uint8_t *frame, size_t frame_len, uint32_t *rows, size_t rows_len,
+                            struct trpc_response *record);
+uint32_t trpc_read_init(const uint8_t *frame, size_t frame_len, uint32_t *rows, size_t rows_len,
+                        struct trpc_init *record);
+uint32_t trpc_read_data(const uint8_t *frame, size_t frame_len, uint32_t *rows, size_t rows_len,
+                        struct trpc_data *record);
+uint32_t trpc_read_feedback(const uint8_t *frame, size_t frame_len, uint32_t *rows, size_t rows_len,
+                            struct trpc_feedback *record);
+uint32_t trpc_read_close(const uint8_t *frame, size_t frame_len, uint32_t *rows, size_t rows_len,
+                         struct trpc_close *record);
 
 /* ---- Writing a frame ---- */
 
 /*
- * The error codes of trpc_write, in their order: TRPC_WRITE_KIND; TRPC_WRITE_ROWS for over 64 rows, rows with Feedback or Data, and
- * too few row numbers; TRPC_WRITE_SOURCE; TRPC_WRITE_ROWS for its other grounds; TRPC_WRITE_BODY, TRPC_WRITE_FRAME,
- * TRPC_WRITE_HEADER and TRPC_WRITE_OUTPUT.
+ * The error codes of the writers.
+ *
+ * Order: TRPC_WRITE_ROWS for over 64 rows, rows with Feedback or Data, and too few row numbers; TRPC_WRITE_SOURCE;
+ * TRPC_WRITE_ROWS for its other grounds; TRPC_WRITE_BODY; TRPC_WRITE_FRAME; TRPC_WRITE_HEADER; TRPC_WRITE_OUTPUT.
  */
 enum trpc_write_error {
     TRPC_WRITE_DONE = 0,
-    TRPC_WRITE_KIND = 9,    /* the kind is none of enum trpc_kind */
     TRPC_WRITE_BODY = 15,   /* the attachment is larger than the body, or a body with Init, Feedback or Close */
     TRPC_WRITE_SOURCE = 17, /* a start plus length passes the end of the source bytes, empty fields too */
-    TRPC_WRITE_ROWS = 18,   /* over 64 rows, rows with Feedback or Data, too few row numbers for them, equal keys, or a meta part of
-                               Init marked absent and not all zero, empty and rowless */
+    TRPC_WRITE_ROWS = 18,   /* over 64 rows, rows with Feedback or Data, too few row numbers for them, equal keys, or a
+                               meta part of Init marked absent and not all zero, empty and rowless */
     TRPC_WRITE_FRAME = 19,  /* the frame is over 65,536 bytes */
-    TRPC_WRITE_HEADER = 20, /* the header message is over 65,535 bytes */
+    TRPC_WRITE_HEADER = 20, /* the header message is over 65,535 bytes; TRPC_WRITE_FRAME holds then, and comes first */
     TRPC_WRITE_OUTPUT = 27  /* the output is shorter than the frame */
 };
 
 /*
- * Writes the frame of a record to the start of the output: fields by rising number, zero and empty ones left out, rows in the given
- * order.
+ * Each writes the frame of a record of its kind to the start of the output: fields by rising number, zero and empty
+ * ones left out, rows in the given order.
  *
- * kind    one of enum trpc_kind.
- * record  the record's 24 numbers; missing ones are 0. Header, body and attachment in it are not looked at.
- * source  the bytes that the starts of the record and of its rows count from. The record and the rows of a frame that was read go
- *         with that frame.
- * rows    four numbers for each of the record's rows (struct trpc_row); more are not looked at.
- * body    the frame's body, its attachment included.
- * out     receives the frame. Bytes past the frame stay as they were, and all of them after a refusal.
+ * record  the record. Header, body and attachment in it are not looked at, nor is `zero`.
+ * source  the bytes that the starts of the record and of its rows count from.
+ * rows    four numbers for each of the record's rows (struct trpc_row). Numbers after those are not looked at.
+ * body    the frame's body. Of a request or response its last attachment_size bytes are the attachment.
+ * out     receives the frame. Bytes past the frame stay as they were; after a refusal all bytes do.
  * size    receives the frame's size, 0 after a refusal.
  *
- * Returns the error code, 0 for none.
+ * Returns a code of enum trpc_write_error.
+ *
+ * What was read can be handed to the writer of its kind: the record and the rows, the frame as the source, and the
+ * frame's body. It may be refused with TRPC_WRITE_FRAME: the frame written may be longer than the one read. No other
+ * code is ruled out yet.
  *
  *     struct trpc_feedback feedback = {.id = 5, .window_size_increment = 300};
- *     const uint8_t none[1] = {0};
- *     const uint32_t no_rows[1] = {0};
  *     uint8_t out[64];
  *     size_t size;
  *
- *     if (trpc_write(TRPC_FEEDBACK, (const uint32_t *)&feedback, TRPC_RECORD_NUMBERS, none, 0, no_rows, 0, none, 0, out,
- *                    sizeof out, &size) == 0) {
+ *     if (trpc_write_feedback(&feedback, NULL, 0, NULL, 0, NULL, 0, out, sizeof out, &size) == TRPC_WRITE_DONE) {
  *         // out has the 19 bytes of the frame, its message is 08 AC 02
  *     }
  */
-uint32_t trpc_write(uint32_t kind, const uint32_t *record, size_t record_len, const uint8_t *source, size_t source_len,
-                    const uint32_t *rows, size_t rows_len, const uint8_t *body, size_t body_len, uint8_t *out, size_t out_len,
-                    size_t *size);
+uint32_t trpc_write_request(const struct trpc_request *record, const uint8_t *source, size_t source_len,
+                            const uint32_t *rows, size_t rows_len, const uint8_t *body, size_t body_len, uint8_t *out,
+                            size_t out_len, size_t *size);
+uint32_t trpc_write_response(const struct trpc_response *record, const uint8_t *source, size_t source_len,
+                             const uint32_t *rows, size_t rows_len, const uint8_t *body, size_t body_len, uint8_t *out,
+                             size_t out_len, size_t *size);
+uint32_t trpc_write_init(const struct trpc_init *record, const uint8_t *source, size_t source_len,
+                         const uint32_t *rows, size_t rows_len, const uint8_t *body, size_t body_len, uint8_t *out,
+                         size_t out_len, size_t *size);
+uint32_t trpc_write_data(const struct trpc_data *record, const uint8_t *source, size_t source_len,
+                         const uint32_t *rows, size_t rows_len, const uint8_t *body, size_t body_len, uint8_t *out,
+                         size_t out_len, size_t *size);
+uint32_t trpc_write_feedback(const struct trpc_feedback *record, const uint8_t *source, size_t source_len,
+                             const uint32_t *rows, size_t rows_len, const uint8_t *body, size_t body_len, uint8_t *out,
+                             size_t out_len, size_t *size);
+uint32_t trpc_write_close(const struct trpc_close *record, const uint8_t *source, size_t source_len,
+                          const uint32_t *rows, size_t rows_len, const uint8_t *body, size_t body_len, uint8_t *out,
+                          size_t out_len, size_t *size);
 
 /* ---- Waiting jobs ---- */
 
@@ -381,30 +447,37 @@ uint32_t trpc_write(uint32_t kind, const uint32_t *record, size_t record_len, co
 #define TRPC_QUEUE_LATEST_ARRIVAL UINT64_C(4611686018427387904)
 
 /*
- * The error codes of a queue. Where two hold, TRPC_QUEUE_INVALID comes first; trpc_queue_add then has TRPC_QUEUE_ARRIVAL,
- * TRPC_QUEUE_DUPLICATE and TRPC_QUEUE_FULL, in this order.
+ * The error codes of a queue.
+ *
+ * Order of trpc_queue_add: TRPC_QUEUE_INVALID, TRPC_QUEUE_ARRIVAL, TRPC_QUEUE_DUPLICATE, TRPC_QUEUE_FULL.
+ * Order of trpc_queue_take: TRPC_QUEUE_INVALID, TRPC_QUEUE_EMPTY.
+ * Order of trpc_queue_cancel: TRPC_QUEUE_INVALID, TRPC_QUEUE_ABSENT.
  */
 enum trpc_queue_error {
     TRPC_QUEUE_DONE = 0,       /* the call did its work */
-    TRPC_QUEUE_FULL = 21,      /* add: 64 jobs wait */
-    TRPC_QUEUE_ARRIVAL = 22,   /* add: the arrival is above 2^62 */
-    TRPC_QUEUE_EMPTY = 23,     /* take: nothing waits */
-    TRPC_QUEUE_INVALID = 24,   /* add, take, cancel: the queue's count is over 64, a pair waits twice, or a waiting arrival is above 2^62 */
-    TRPC_QUEUE_DUPLICATE = 25, /* add: the job's pair waits already */
-    TRPC_QUEUE_ABSENT = 26     /* cancel: the named pair doesn't wait */
+    TRPC_QUEUE_FULL = 21,      /* 64 jobs wait */
+    TRPC_QUEUE_ARRIVAL = 22,   /* the arrival is above 2^62 */
+    TRPC_QUEUE_EMPTY = 23,     /* nothing waits */
+    TRPC_QUEUE_INVALID = 24,   /* the queue: count over 64, a waiting pair twice, or a waiting arrival above 2^62 */
+    TRPC_QUEUE_DUPLICATE = 25, /* the job's pair waits already */
+    TRPC_QUEUE_ABSENT = 26     /* the named pair doesn't wait */
 };
 
-/* A job, named by its pair of connection number and request id. */
+/*
+ * A job, named by its pair of connection number and request id. `zero` fills the place before the arrival. It is 0 in a
+ * job that was added and in a place that was freed. It moves with its job and is never looked at.
+ */
 struct trpc_job {
     uint32_t connection; /* the connection that the request came on */
     uint32_t request;    /* the request id of its fixed header, bytes 11-14 */
     uint32_t timeout;    /* in ms; 0 is no deadline */
+    uint32_t zero;       /* 0 */
     uint64_t arrival;    /* in ms; at most 2^62 */
 };
 
 /*
- * A queue: the first `count` jobs wait, in order of acceptance. It lies in the caller's memory and holds all of its state,
- * so it may be copied by assignment. What stands past the count is no job and is not looked at.
+ * A queue: the first `count` jobs wait, in order of acceptance. It is in the caller's memory and is all of its state,
+ * so it may be copied by assignment. What is past the count is no job and is not looked at.
  */
 struct trpc_queue {
     struct trpc_job jobs[TRPC_QUEUE_CAPACITY];
@@ -414,13 +487,11 @@ struct trpc_queue {
 /*
  * In each function below
  *
- * queue    a queue that can be read and written, and that nobody else reads or writes during the call. Not a null pointer.
- *          Any values may stand in it: a queue that is not valid is refused with TRPC_QUEUE_INVALID.
- * removed  room for a job, outside the queue and likewise the caller's alone during the call. Not a null pointer. Its values
- *          before the call don't matter.
+ * queue    a queue that can be read and written. Any values may be in it: trpc_queue_init takes them all, and every
+ *          other function refuses a queue that is not valid with TRPC_QUEUE_INVALID.
+ * removed  room for a job, outside the queue. Its values before the call don't matter.
  *
- * A call that is refused changes no job and no count of the queue. The functions keep no state beside the queue: calls on
- * different queues may be made from different threads at once.
+ * A call that is refused changes no byte of the queue, and leaves `removed` all zero.
  *
  *     struct trpc_queue queue;
  *     struct trpc_job job;
@@ -433,30 +504,32 @@ struct trpc_queue {
  *     }
  */
 
-/* Makes the queue one in which nothing waits: all of its jobs are zero, and so is its count. */
+/* Makes the queue one in which nothing waits: every byte of it is 0. */
 void trpc_queue_init(struct trpc_queue *queue);
 
 /*
- * Puts a job behind those that wait: jobs[count], whose values before don't matter, becomes the job, and the count grows by
- * one. The other jobs stay as they are. An arrival may lie before those of jobs that were accepted earlier.
+ * Puts a job after those that wait: jobs[count], whose values before don't matter, becomes the job, with `zero` 0, and
+ * the count grows by one. The other jobs stay as they are. An arrival may be before those of jobs that were accepted
+ * earlier.
  *
- * Returns 0, or TRPC_QUEUE_INVALID, TRPC_QUEUE_ARRIVAL, TRPC_QUEUE_DUPLICATE or TRPC_QUEUE_FULL.
+ * Returns a code of enum trpc_queue_error.
  */
-uint32_t trpc_queue_add(struct trpc_queue *queue, uint32_t connection, uint32_t request, uint32_t timeout, uint64_t arrival);
+uint32_t trpc_queue_add(struct trpc_queue *queue, uint32_t connection, uint32_t request, uint32_t timeout,
+                        uint64_t arrival);
 
 /*
- * Removes the job that is due first: the one whose arrival plus timeout is the least, as whole numbers that don't wrap, and
- * of several such the one accepted first. A job with no deadline comes after all that have one.
+ * Removes the job that is due first: the one whose arrival plus timeout is the least, as whole numbers that don't wrap,
+ * and of several such the one accepted first. A job with no deadline comes after all that have one.
  *
- * Returns 0, or TRPC_QUEUE_INVALID or TRPC_QUEUE_EMPTY. Afterwards `removed` is the job removed; the jobs behind it have
- * moved up one, the last place freed is zero, and the count is one less. After a refusal `removed` is all zero.
+ * Returns a code of enum trpc_queue_error. After 0 `removed` is the job removed, the jobs after it have moved up one,
+ * the last place freed is all zero, and the count is one less. What is past the old count stays as it is.
  */
 uint32_t trpc_queue_take(struct trpc_queue *queue, struct trpc_job *removed);
 
 /*
  * Removes the job of a pair, connection number and request id.
  *
- * Returns 0, or TRPC_QUEUE_INVALID or TRPC_QUEUE_ABSENT. Afterwards queue and `removed` are as after trpc_queue_take.
+ * Returns a code of enum trpc_queue_error. After 0 queue and `removed` are as after trpc_queue_take.
  */
 uint32_t trpc_queue_cancel(struct trpc_queue *queue, uint32_t connection, uint32_t request, struct trpc_job *removed);
 

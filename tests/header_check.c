@@ -1,7 +1,7 @@
 /*
- * trpc_header_check and trpc_header_parse, as a C program calls them, against a check that is written here on its own: the headers
- * of document 01's examples with the codes that it gives, every value of every byte of several headers, and every length from 0 to
- * 40.
+ * trpc_header_check and trpc_header_parse, as a C program calls them, against a check that is written here on its own:
+ * the headers of document 01's examples with the codes that it gives, every value of every byte of several headers, and
+ * every length from 0 to 40.
  */
 #include <stdio.h>
 #include <stdlib.h>
@@ -123,7 +123,7 @@ int main(void)
                 check("a byte changed", bytes, 16, expected(bytes, 16));
             }
 
-    /* every length, of headers with other bytes behind them */
+    /* every length, of headers with other bytes after them */
     for (size_t r = 0; r < count; r++)
         for (size_t len = 0; len <= 40; len++) {
             memset(bytes, 0xA5, sizeof bytes);

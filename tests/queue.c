@@ -1,7 +1,8 @@
 /*
- * The queue of waiting jobs, as a C program lends it, against a model that is written here on its own: document 01's examples,
- * each refusal and the order of the refusals, and 100,000 sequences of calls on queues of every kind. After each call the whole
- * queue, the job handed out and the bytes around both are compared.
+ * The queue of waiting jobs, as a C program lends it, against a model that is written here on its own: document 01's
+ * examples, each refusal and the order of the refusals, and 100,000 sequences of calls on queues of every kind. Before
+ * each call the stack is filled with bytes that are not zero. After it every byte of the queue and of the job handed out
+ * is compared, and the bytes around both. So what a call leaves does not depend on what was on the stack.
  */
 #include <stdio.h>
 #include <stdlib.h>
@@ -12,11 +13,12 @@
 _Static_assert(sizeof(struct trpc_job) == 24, "the size of a job");
 _Static_assert(offsetof(struct trpc_job, request) == 4, "the place of the request id");
 _Static_assert(offsetof(struct trpc_job, timeout) == 8, "the place of the timeout");
+_Static_assert(offsetof(struct trpc_job, zero) == 12, "the place of the number zero");
 _Static_assert(offsetof(struct trpc_job, arrival) == 16, "the place of the arrival");
 _Static_assert(sizeof(struct trpc_queue) == 64 * 24 + 8, "the size of a queue");
 _Static_assert(offsetof(struct trpc_queue, count) == 64 * 24, "the place of the count");
 
-enum { CAPACITY = 64, SEQUENCES = 100000, GUARD = 64, GUARD_BYTE = 0x25 };
+enum { CAPACITY = 64, SEQUENCES = 100000, GUARD = 64, GUARD_BYTE = 0x25, STACK = 6 * 1024 };
 
 #define LATEST (UINT64_C(1) << 62)
 
@@ -71,7 +73,7 @@ static size_t place(const struct trpc_queue *q, struct trpc_job j)
     return at;
 }
 
-/* Whether a comes before b by due time alone. */
+/* Whether a comes before b by due time only. */
 static int sooner(struct trpc_job a, struct trpc_job b)
 {
     if (a.timeout == 0 || b.timeout == 0)
@@ -136,9 +138,10 @@ static void fail(const char *what, const char *where)
     exit(1);
 }
 
+/* A job and a queue have no padding: every byte is compared. */
 static int same_job(struct trpc_job a, struct trpc_job b)
 {
-    return same_pair(a, b) && a.timeout == b.timeout && a.arrival == b.arrival;
+    return memcmp(&a, &b, sizeof a) == 0;
 }
 
 static void compare(const char *what, const struct lent *l, const struct trpc_queue *q, struct trpc_job removed)
@@ -148,6 +151,8 @@ static void compare(const char *what, const struct lent *l, const struct trpc_qu
     for (size_t i = 0; i < CAPACITY; i++)
         if (!same_job(l->queue.jobs[i], q->jobs[i]))
             fail(what, i < q->count ? "another job waits" : "another job past the count");
+    if (memcmp(&l->queue, q, sizeof *q) != 0)
+        fail(what, "another byte of the queue");
     if (!same_job(l->removed, removed))
         fail(what, "another job was handed out");
     for (size_t i = 0; i < GUARD; i++)
@@ -156,8 +161,20 @@ static void compare(const char *what, const struct lent *l, const struct trpc_qu
     checks++;
 }
 
+/* Fills the stack that the next call uses with bytes that are not zero, others each time. */
+static __attribute__((noinline)) void fill_stack(void)
+{
+    static uint8_t byte;
+    uint8_t used[STACK];
+
+    byte = (uint8_t)(byte + 1) == 0 ? 1 : (uint8_t)(byte + 1);
+    memset(used, byte, sizeof used);
+    __asm__ volatile("" : : "r"(used) : "memory"); /* the bytes are looked at, for all that the compiler knows */
+}
+
 static uint32_t run(struct lent *l, struct call c)
 {
+    fill_stack();
     switch (c.kind) {
     case ADD:
         return trpc_queue_add(&l->queue, c.job.connection, c.job.request, c.job.timeout, c.job.arrival);
@@ -194,7 +211,7 @@ static void expect(const char *what, int holds)
 
 static struct call add_call(uint32_t connection, uint32_t request, uint32_t timeout, uint64_t arrival)
 {
-    struct call c = {ADD, {connection, request, timeout, arrival}};
+    struct call c = {ADD, {connection, request, timeout, 0, arrival}};
     return c;
 }
 
@@ -212,7 +229,7 @@ static void take(const char *what, struct lent *l, uint32_t code, uint32_t reque
 
 static void cancel(const char *what, struct lent *l, uint32_t connection, uint32_t request, uint32_t code)
 {
-    struct call c = {CANCEL, {connection, request, 0, 0}};
+    struct call c = {CANCEL, {connection, request, 0, 0, 0}};
     expect(what, check(what, l, c) == code);
     expect(what, code == 0 ? l->removed.request == request : same_job(l->removed, zero));
 }
@@ -223,6 +240,7 @@ static void start(struct lent *l)
     static const struct trpc_queue empty;
     memset(l, GUARD_BYTE, sizeof *l);
     struct trpc_job removed = l->removed;
+    fill_stack();
     trpc_queue_init(&l->queue);
     compare("init", l, &empty, removed);
 }
@@ -337,16 +355,20 @@ static struct trpc_job any_job(uint32_t pairs)
     j.connection = below(2);
     j.request = below(pairs);
     j.timeout = below(2) ? timeouts[below(9)] : below(50);
+    j.zero = 0;
     j.arrival = below(8) == 0 ? arrivals[below(8)] : below(50);
     return j;
 }
 
-/* A queue with any count of jobs, anything past the count, and one time in eight invalid or nearly so. */
+/* A queue with any count of jobs, anything past the count and as the number zero, and one time in eight invalid or nearly
+   so. */
 static void any_queue(struct lent *l, uint32_t pairs)
 {
     start(l);
-    for (size_t i = 0; i < CAPACITY; i++)
+    for (size_t i = 0; i < CAPACITY; i++) {
         l->queue.jobs[i] = any_job(pairs);
+        l->queue.jobs[i].zero = below(2) ? below(UINT32_MAX) : 0;
+    }
     size_t count = below(4) == 0 ? CAPACITY : below(CAPACITY + 1);
     int repaired = below(8) != 0;
     for (size_t i = 0; i < count && repaired; i++) {

@@ -1,7 +1,8 @@
 /*
- * trpc_read on damaged frames, each lent buffer exactly as long as it is said to be: once from malloc, under
- * -fsanitize=address,undefined, and, since the archive's own code carries no checks of the sanitizer, once before and once
- * behind a page that cannot be touched. The three have to answer the same; what a refusal leaves has to be as document 01 says.
+ * The six readers on damaged frames, each lent buffer exactly as long as it is said to be: once from malloc, under
+ * -fsanitize=address,undefined, and, since the archive's own code carries no checks of the sanitizer, once before and
+ * once after a page that cannot be touched. The three have to answer the same; what a refusal leaves has to be as
+ * document 01 says.
  */
 #define _DEFAULT_SOURCE
 #include <stdio.h>
@@ -10,9 +11,9 @@
 #include <sys/mman.h>
 #include <unistd.h>
 
-#include "bekurapi.h"
+#include "by_kind.h"
 
-enum { FRAMES = 200000, KINDS = 6, NUMBERS = 24, ROW_NUMBERS = 256, CODES = 17, LARGEST = 1 << 16 };
+enum { FRAMES = 200000, CODES = 17, LARGEST = 1 << 16 };
 
 /* ---- Numbers that look random and are the same in each run ---- */
 
@@ -134,7 +135,7 @@ static void put_fields(struct bytes *out, unsigned count, unsigned depth)
         put_field(out, below(30) ? 1 + below(13) : any() >> 3, depth);
 }
 
-/* Map entries around the limit of 64, some keys again, in the field that is the kind's map; Init's stands in its first part. */
+/* Map entries around the limit of 64, some keys again, in the field that is the kind's map; Init's is in its first part. */
 static void put_entries(struct bytes *out, uint32_t kind)
 {
     static const unsigned fields[KINDS] = {9, 8, 5, 5, 5, 5};
@@ -171,14 +172,8 @@ static void fit(struct bytes *frame, size_t header_size)
 
 static void make_frame(struct bytes *frame, uint32_t kind)
 {
-    static const uint8_t stream_types[KINDS] = {0, 0, 1, 2, 3, 4};
     frame->len = 16;
-    memset(frame->at, 0, 16);
-    frame->at[0] = 0x09;
-    frame->at[1] = 0x30;
-    frame->at[2] = kind > 1;
-    frame->at[3] = stream_types[kind];
-    put_big(frame->at + 10, any(), 4);
+    put_header(frame->at, kind, 0, 0, any());
     if (below(20) == 0)
         put_entries(frame, kind);
     put_fields(frame, below(8), 0);
@@ -232,14 +227,14 @@ struct lent {
     uint32_t *rows, *record;
 };
 
-static uint32_t answer(uint32_t kind, const struct bytes *frame, struct lent lent, size_t rows, size_t numbers)
+static uint32_t answer(uint32_t kind, const struct bytes *frame, struct lent lent, size_t rows)
 {
     memcpy(lent.frame, frame->at, frame->len);
     for (size_t i = 0; i < rows; i++)
         lent.rows[i] = 0xA5A50000u + (uint32_t)i;
-    for (size_t i = 0; i < numbers; i++)
+    for (size_t i = 0; i < NUMBERS; i++)
         lent.record[i] = 0x5A5A0000u + (uint32_t)i;
-    return trpc_read(kind, lent.frame, frame->len, lent.rows, rows, lent.record, numbers);
+    return read_as(kind, lent.frame, frame->len, lent.rows, rows, lent.record);
 }
 
 static void fail(const char *what, uint32_t kind, const struct bytes *frame, uint32_t code)
@@ -252,56 +247,64 @@ static void fail(const char *what, uint32_t kind, const struct bytes *frame, uin
 }
 
 /* What document 01 says of the row numbers and the record after a refusal. */
-static int left_as_said(uint32_t code, struct lent lent, size_t rows, size_t numbers)
+static int left_as_said(uint32_t code, struct lent lent, size_t rows)
 {
     for (size_t i = 0; i < rows; i++) {
         uint32_t kept = 0xA5A50000u + (uint32_t)i;
         if (lent.rows[i] != (code >= 10 && code <= 15 && i < ROW_NUMBERS ? 0 : kept))
             return 0;
     }
-    for (size_t i = 0; i < numbers; i++)
-        if (lent.record[i] != (i < NUMBERS ? 0 : 0x5A5A0000u + (uint32_t)i))
+    for (size_t i = 0; i < NUMBERS; i++)
+        if (lent.record[i] != 0)
             return 0;
     return 1;
 }
 
+/* One frame read as a kind, in three places. Returns the answer. */
+static uint32_t check(uint32_t kind, const struct bytes *frame, size_t rows, struct fenced frames, struct fenced all_rows,
+                      struct fenced records)
+{
+    struct lent exact = {malloc(frame->len), malloc(rows * 4), malloc(NUMBERS * 4)};
+    struct lent others[] = {
+        {frames.start, (uint32_t *)all_rows.start, (uint32_t *)records.start},
+        {frames.start + frames.size - frame->len, (uint32_t *)(all_rows.start + all_rows.size - rows * 4),
+         (uint32_t *)(records.start + records.size - NUMBERS * 4)},
+    };
+    uint32_t code = answer(kind, frame, exact, rows);
+
+    if (code != 0 && (code < 3 || code >= CODES))
+        fail("no such refusal", kind, frame, code);
+    if (code != 0 && !left_as_said(code, exact, rows))
+        fail("the row numbers or the record after a refusal", kind, frame, code);
+    if (memcmp(exact.frame, frame->at, frame->len) != 0)
+        fail("the frame was changed", kind, frame, code);
+    for (int i = 0; i < 2; i++) {
+        uint32_t again = answer(kind, frame, others[i], rows);
+        if (again != code || memcmp(others[i].rows, exact.rows, rows * 4) != 0 ||
+            memcmp(others[i].record, exact.record, NUMBERS * 4) != 0 ||
+            memcmp(others[i].frame, frame->at, frame->len) != 0)
+            fail("another answer where the memory is another", kind, frame, again);
+    }
+    free(exact.frame);
+    free(exact.rows);
+    free(exact.record);
+    return code;
+}
+
 int main(void)
 {
-    static const size_t row_lengths[] = {0, 1, 255, 257, 300}, record_lengths[] = {0, 1, 8, 23, 30};
+    static const size_t row_lengths[] = {0, 1, 255, 257, 300};
     static struct bytes frame;
-    struct fenced frames = fence(LARGEST), all_rows = fence(300 * 4), records = fence(30 * 4);
+    struct fenced frames = fence(LARGEST), all_rows = fence(300 * 4), records = fence(NUMBERS * 4);
     unsigned long codes[CODES] = {0};
 
     for (long count = 0; count < FRAMES; count++) {
         uint32_t kind = below(KINDS);
         make_frame(&frame, kind);
         if (below(20) == 0)
-            kind = below(KINDS + 2);
+            kind = below(KINDS);
         size_t rows = below(8) ? ROW_NUMBERS : row_lengths[below(5)];
-        size_t numbers = below(8) ? NUMBERS : record_lengths[below(5)];
-
-        struct lent exact = {malloc(frame.len), malloc(rows * 4), malloc(numbers * 4)};
-        struct lent after = {frames.start, (uint32_t *)all_rows.start, (uint32_t *)records.start};
-        struct lent before = {frames.start + frames.size - frame.len, (uint32_t *)(all_rows.start + all_rows.size - rows * 4),
-                              (uint32_t *)(records.start + records.size - numbers * 4)};
-        uint32_t code = answer(kind, &frame, exact, rows, numbers);
-        if (code != 0 && (code < 3 || code >= CODES))
-            fail("no such refusal", kind, &frame, code);
-        codes[code]++;
-        if (code != 0 && !left_as_said(code, exact, rows, numbers))
-            fail("the row numbers or the record after a refusal", kind, &frame, code);
-        struct lent others[] = {after, before};
-        for (int i = 0; i < 2; i++) {
-            uint32_t again = answer(kind, &frame, others[i], rows, numbers);
-            if (again != code || memcmp(others[i].rows, exact.rows, rows * 4) != 0 ||
-                memcmp(others[i].record, exact.record, numbers * 4) != 0 || memcmp(others[i].frame, frame.at, frame.len) != 0)
-                fail("another answer where the memory is another", kind, &frame, again);
-        }
-        if (memcmp(exact.frame, frame.at, frame.len) != 0)
-            fail("the frame was changed", kind, &frame, code);
-        free(exact.frame);
-        free(exact.rows);
-        free(exact.record);
+        codes[check(kind, &frame, rows, frames, all_rows, records)]++;
     }
 
     printf("sanitized_reader: %d frames, nothing touched outside; answers", (int)FRAMES);

@@ -150,7 +150,7 @@ fn check_queue() {
         }
         assert_eq!(ours, plain);
         if call % 200 == 0 {
-            ours.jobs = std::array::from_fn(|_| any_job(&mut random));
+            ours.jobs = std::array::from_fn(|_| Job { zero: random.next() as u32, ..any_job(&mut random) });
             ours.count = random.between(0, CAPACITY as u64 / 4) as usize;
             plain = ours.clone();
         }
@@ -162,6 +162,7 @@ fn any_job(random: &mut Random) -> Job {
         connection: random.between(0, 3) as u32,
         request: random.between(0, 60) as u32,
         timeout: random.between(0, 50) as u32,
+        zero: 0,
         arrival: if random.between(0, 99) == 0 { random.next() } else { random.between(0, 50) },
     }
 }

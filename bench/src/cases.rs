@@ -319,6 +319,7 @@ fn jobs(count: usize, seed: u64) -> Vec<Job> {
         connection: random.between(1, 8) as u32,
         request: request as u32,
         timeout: random.between(1, 5_000) as u32,
+        zero: 0,
         arrival: STEP * request as u64,
     };
     (0..count).map(job).collect()

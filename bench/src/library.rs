@@ -1,14 +1,16 @@
 //! The library, through its C interface (include/bekurapi.h).
 
 use crate::plain::deframer::{State, Step};
+use crate::plain::messages::{REQUEST, RESPONSE};
 use crate::plain::queue::{Job, Queue};
 use crate::plain::Error;
 use bekurapi_sys as ffi;
 
-/// How many numbers a record has.
+/// The record of a kind as numbers, and how many they are.
+pub use bekurapi_sys::Numbers;
 pub const RECORD_NUMBERS: usize = 24;
 
-/// Where the parts and the fields stand in them.
+/// Where the parts and the fields are in them.
 pub const PARTS: usize = 2;
 pub const FIELDS: usize = 8;
 
@@ -38,36 +40,36 @@ pub fn deframe(state: &mut State, buffer: &mut [u8], piece: &[u8]) -> Step {
     Step { error, taken, size }
 }
 
+/// The reader and the writer of a kind of plain Rust's.
 #[inline]
-pub fn read(kind: u32, frame: &[u8], rows: &mut [u32], record: &mut [u32]) -> Error {
-    unsafe {
-        ffi::trpc_read(
-            kind,
-            frame.as_ptr(),
-            frame.len(),
-            rows.as_mut_ptr(),
-            rows.len(),
-            record.as_mut_ptr(),
-            record.len(),
-        )
+fn entries(kind: u32) -> (ffi::Reader, ffi::Writer) {
+    match kind {
+        REQUEST => (ffi::trpc_read_request, ffi::trpc_write_request),
+        RESPONSE => (ffi::trpc_read_response, ffi::trpc_write_response),
+        _ => unreachable!("plain Rust has two kinds"),
     }
+}
+
+#[inline]
+pub fn read(kind: u32, frame: &[u8], rows: &mut [u32], record: &mut Numbers) -> Error {
+    let (read, _) = entries(kind);
+    unsafe { read(frame.as_ptr(), frame.len(), rows.as_mut_ptr(), rows.len(), record) }
 }
 
 #[inline]
 pub fn write(
     kind: u32,
-    record: &[u32],
+    record: &Numbers,
     source: &[u8],
     rows: &[u32],
     body: &[u8],
     out: &mut [u8],
 ) -> Result<usize, Error> {
+    let (_, write) = entries(kind);
     let mut size = 0;
     let error = unsafe {
-        ffi::trpc_write(
-            kind,
-            record.as_ptr(),
-            record.len(),
+        write(
+            record,
             source.as_ptr(),
             source.len(),
             rows.as_ptr(),

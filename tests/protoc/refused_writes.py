@@ -279,13 +279,6 @@ def several_grounds():
             yield call
 
 
-def refused_records():
-    for code in (0, 3, 9, 10, 11, 12, 13, 14, 15, 16, 18, 27, TOP):
-        label = f"a record that was refused with {code}"
-        yield Call(label, "refused", {}, [], b"", id=code, wanted=code, room=code % 20)
-    yield Call("a record that was refused, with a body", "refused", {}, [0] * 8, b"source", body=b"x", id=9, wanted=9)
-
-
 # ---- Random numbers in every place ----------------------------------------------------------------------------------
 
 
@@ -337,5 +330,4 @@ def refused():
     yield from large_frames()
     yield from no_room()
     yield from several_grounds()
-    yield from refused_records()
     yield from random_calls(Dice(15))

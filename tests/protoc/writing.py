@@ -116,8 +116,6 @@ def grounds(call):
 
 
 def refusal(call):
-    if call.kind == "refused":
-        return call.id
     return next((code for code, holds in grounds(call) if holds), 0)
 
 
@@ -196,7 +194,7 @@ def period(content):
 
 def packed(label, call):
     source, body = period(call.source), period(call.body)
-    kind = KINDS.index(call.kind) if call.kind in KINDS else len(KINDS)
+    kind = KINDS.index(call.kind)
     fields = list(slots(fields_of(call.kind), call.fields))
     head = [len(label), len(call.numbers), len(call.source), len(call.body), call.output(), source, body]
     head += [kind, call.id, call.count, *fields, *[0] * (SLOTS - len(fields))]

@@ -65,9 +65,13 @@ pub struct Record<M> {
     pub message: M,
 }
 
+/// The kinds by number.
+pub const REQUEST: u32 = 0;
+pub const RESPONSE: u32 = 1;
+
 /// What the two have in common, and how the C interface passes them as numbers.
 pub trait Message: Copy + Default {
-    /// The kind's number in the C interface.
+    /// The kind's number, one of the two.
     const KIND: u32;
     /// The number of the map's field.
     const TRANS_INFO: u32;
@@ -91,7 +95,7 @@ pub trait Sink {
 }
 
 impl Message for Request {
-    const KIND: u32 = 0;
+    const KIND: u32 = REQUEST;
     const TRANS_INFO: u32 = 9;
 
     #[inline]
@@ -168,7 +172,7 @@ impl Message for Request {
 }
 
 impl Message for Response {
-    const KIND: u32 = 1;
+    const KIND: u32 = RESPONSE;
     const TRANS_INFO: u32 = 8;
 
     #[inline]

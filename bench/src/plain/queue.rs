@@ -5,13 +5,14 @@ use super::Error;
 pub const CAPACITY: usize = 64;
 const LATEST: u64 = 1 << 62;
 
-/// Laid out as in C, like the queue: the library takes the same two.
+/// Laid out as in C, like the queue: the library takes the same two. `zero` fills the place before the arrival.
 #[repr(C)]
 #[derive(Clone, Copy, Default, Debug, PartialEq, Eq)]
 pub struct Job {
     pub connection: u32,
     pub request: u32,
     pub timeout: u32,
+    pub zero: u32,
     pub arrival: u64,
 }
 

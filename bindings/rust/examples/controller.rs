@@ -81,7 +81,7 @@ fn accept(queue: &mut Queue, frame: &[u8], now: u64) {
     print_request(&message, request);
     let job = Job { connection: CONNECTION, request: message.id, timeout: request.timeout, arrival: now };
     match queue.add(job) {
-        Ok(()) => println!("  queued at {now} ms, {} waiting", queue.jobs().len()),
+        Ok(()) => println!("  queued at {now} ms, {} waiting", queue.len()),
         Err(error) => println!("  not queued, error {}", error.number()),
     }
 }
@@ -121,8 +121,13 @@ fn main() -> Result<(), Error> {
         Ok(End::Short(held)) => println!("the stream ends short, with {held} bytes held"),
         Err(error) => println!("the stream is refused with {}", error.number()),
     }
-    while let Ok(job) = queue.take() {
-        answer(job)?;
+    loop {
+        match queue.take() {
+            Ok(job) => answer(job)?,
+            Err(Error::QueueEmpty) => break,
+            // 24 would mean that something else has written to the queue. Jobs may wait in it.
+            Err(error) => return Err(error),
+        }
     }
     println!("nothing waits");
     Ok(())

@@ -38,15 +38,16 @@ pub struct Deframer {
 /// use bekurapi::{Deframer, Progress};
 ///
 /// let mut deframer = Deframer::new();
-/// let Progress { taken, frame } = deframer.push(&[0x09, 0x30]).unwrap();
-/// assert_eq!((taken, frame), (2, None));
+/// let Progress { taken, frame } = deframer.push(&[0x09, 0x30]);
+/// assert_eq!((taken, frame), (2, Ok(None)));
 /// ```
 #[derive(Clone, Copy, Debug, PartialEq, Eq)]
+#[must_use = "there may be a frame, an error, or bytes that were not taken"]
 pub struct Progress<'d> {
-    /// How many bytes of the piece were taken.
+    /// How many bytes of the piece were taken, where a header is refused too.
     pub taken: usize,
-    /// The whole frame, or nothing where more is needed: the piece is used up then.
-    pub frame: Option<&'d [u8]>,
+    /// The whole frame; nothing where more is needed, and the piece is used up then; or the error of a header.
+    pub frame: Result<Option<&'d [u8]>, Error>,
 }
 
 /// How a stream ended.
@@ -58,7 +59,7 @@ pub struct Progress<'d> {
 /// ```
 #[derive(Clone, Copy, Debug, PartialEq, Eq)]
 pub enum End {
-    /// Behind a whole frame, or before the first.
+    /// After a whole frame, or before the first.
     Clean,
     /// Inside a frame, of which so many bytes had come.
     Short(usize),
@@ -88,90 +89,16 @@ impl Deframer {
     /// let piece = [&one[..], &two[..]].concat();
     ///
     /// let mut deframer = Deframer::new();
-    /// let progress = deframer.push(&piece).unwrap();
-    /// assert_eq!(progress.frame, Some(&one[..]));
+    /// let progress = deframer.push(&piece);
+    /// assert_eq!(progress.frame, Ok(Some(&one[..])));
     /// let taken = progress.taken;
-    /// assert_eq!(deframer.push(&piece[taken..]).unwrap().frame, Some(&two[..]));
+    /// assert_eq!(deframer.push(&piece[taken..]).frame, Ok(Some(&two[..])));
     /// ```
-    pub fn push(&mut self, piece: &[u8]) -> Result<Progress<'_>, Error> {
-        let (taken, frame) = self.deframe(piece);
-        Ok(Progress { taken, frame: frame? })
-    }
-
-    /// The next whole frame of a piece, which is cut down to the bytes behind those taken; nothing where the piece is used up.
-    /// Call it until then, as in the example of [`Deframer`].
-    ///
-    /// After an error the piece begins behind the header that was refused.
-    ///
-    /// ```
-    /// use bekurapi::{Deframer, Error};
-    ///
-    /// let mut deframer = Deframer::new();
-    /// let mut piece = &b"GET / HTTP/1.1\r\nHost: cell"[..];
-    /// assert_eq!(deframer.next_frame(&mut piece), Err(Error::Magic));
-    /// assert_eq!(piece, b"Host: cell");
-    /// assert_eq!(deframer.held(), b"GET / HTTP/1.1\r\n");
-    /// ```
-    pub fn next_frame(&mut self, piece: &mut &[u8]) -> Result<Option<&[u8]>, Error> {
-        let (taken, frame) = self.deframe(piece);
-        *piece = &piece[taken..];
-        frame
-    }
-
-    /// How the stream ended, if it ends here; or the error that a call has given.
-    ///
-    /// ```
-    /// use bekurapi::{Deframer, End, Error};
-    ///
-    /// let mut deframer = Deframer::new();
-    /// deframer.push(&[0x30]).unwrap();
-    /// assert_eq!(deframer.finish(), Ok(End::Short(1)));
-    ///
-    /// assert_eq!(deframer.push(&[0; 15]), Err(Error::Magic));
-    /// assert_eq!(deframer.finish(), Err(Error::Magic));
-    /// ```
-    pub fn finish(&self) -> Result<End, Error> {
-        let mut short_by = 0;
-        // SAFETY: the pointer and the length are those of the buffer, which the function only reads; `short_by` is a local
-        // that it alone writes.
-        let code =
-            unsafe { ffi::trpc_finish(self.held, self.error, self.buffer.as_ptr(), self.buffer.len(), &mut short_by) };
-        checked(code)?;
-        Ok(if short_by == 0 { End::Clean } else { End::Short(short_by) })
-    }
-
-    /// The bytes held: the beginning of a frame that is not whole yet, or the header that was refused.
-    ///
-    /// ```
-    /// let mut deframer = bekurapi::Deframer::new();
-    /// deframer.push(&[0x09, 0x30, 0]).unwrap();
-    /// assert_eq!(deframer.held(), [0x09, 0x30, 0]);
-    /// ```
-    pub fn held(&self) -> &[u8] {
-        &self.buffer[..self.held]
-    }
-
-    /// Makes the deframer one for a new stream. The buffer is kept.
-    ///
-    /// ```
-    /// use bekurapi::{Deframer, End};
-    ///
-    /// let mut deframer = Deframer::new();
-    /// deframer.push(&[0x09]).unwrap();
-    /// deframer.reset();
-    /// assert_eq!(deframer.finish(), Ok(End::Clean));
-    /// ```
-    pub fn reset(&mut self) {
-        self.held = 0;
-        self.error = 0;
-    }
-
-    /// A call of the library: how many bytes were taken, and the whole frame, nothing, or the error.
-    fn deframe(&mut self, piece: &[u8]) -> (usize, Result<Option<&[u8]>, Error>) {
+    pub fn push(&mut self, piece: &[u8]) -> Progress<'_> {
         let mut taken = 0;
         let mut size = 0;
         // SAFETY: each pointer with a length is a slice's; the buffer is borrowed exclusively and so does not overlap the
-        // piece. The numbers are fields and locals of their own that the function alone writes.
+        // piece. The numbers are fields and locals of their own that only the function writes.
         let code = unsafe {
             ffi::trpc_deframe(
                 &mut self.held,
@@ -185,7 +112,75 @@ impl Deframer {
             )
         };
         let frame = if size == 0 { None } else { Some(&self.buffer[..size]) };
-        (taken, checked(code).map(|()| frame))
+        Progress { taken, frame: checked(code).map(|()| frame) }
+    }
+
+    /// The next whole frame of a piece, which is cut down to the bytes after those taken; nothing where the piece is used up.
+    /// Call it until then, as in the example of [`Deframer`].
+    ///
+    /// After an error the piece begins after the header that was refused.
+    ///
+    /// ```
+    /// use bekurapi::{Deframer, Error};
+    ///
+    /// let mut deframer = Deframer::new();
+    /// let mut piece = &b"GET / HTTP/1.1\r\nHost: cell"[..];
+    /// assert_eq!(deframer.next_frame(&mut piece), Err(Error::Magic));
+    /// assert_eq!(piece, b"Host: cell");
+    /// assert_eq!(deframer.held(), b"GET / HTTP/1.1\r\n");
+    /// ```
+    pub fn next_frame(&mut self, piece: &mut &[u8]) -> Result<Option<&[u8]>, Error> {
+        let Progress { taken, frame } = self.push(piece);
+        *piece = &piece[taken..];
+        frame
+    }
+
+    /// How the stream ended, if it ends here; or the error that a call has given.
+    ///
+    /// ```
+    /// use bekurapi::{Deframer, End, Error, Progress};
+    ///
+    /// let mut deframer = Deframer::new();
+    /// assert_eq!(deframer.push(&[0x30]).taken, 1);
+    /// assert_eq!(deframer.finish(), Ok(End::Short(1)));
+    ///
+    /// assert_eq!(deframer.push(&[0; 20]), Progress { taken: 15, frame: Err(Error::Magic) });
+    /// assert_eq!(deframer.finish(), Err(Error::Magic));
+    /// ```
+    pub fn finish(&self) -> Result<End, Error> {
+        let mut short_by = 0;
+        // SAFETY: the pointer and the length are those of the buffer, which the function only reads; `short_by` is a local
+        // that only it writes.
+        let code =
+            unsafe { ffi::trpc_finish(self.held, self.error, self.buffer.as_ptr(), self.buffer.len(), &mut short_by) };
+        checked(code)?;
+        Ok(if short_by == 0 { End::Clean } else { End::Short(short_by) })
+    }
+
+    /// The bytes held: the beginning of a frame that is not whole yet, or the header that was refused.
+    ///
+    /// ```
+    /// let mut deframer = bekurapi::Deframer::new();
+    /// assert_eq!(deframer.push(&[0x09, 0x30, 0]).taken, 3);
+    /// assert_eq!(deframer.held(), [0x09, 0x30, 0]);
+    /// ```
+    pub fn held(&self) -> &[u8] {
+        &self.buffer[..self.held]
+    }
+
+    /// Makes the deframer one for a new stream. The buffer is kept.
+    ///
+    /// ```
+    /// use bekurapi::{Deframer, End};
+    ///
+    /// let mut deframer = Deframer::new();
+    /// assert_eq!(deframer.push(&[0x09]).taken, 1);
+    /// deframer.reset();
+    /// assert_eq!(deframer.finish(), Ok(End::Clean));
+    /// ```
+    pub fn reset(&mut self) {
+        self.held = 0;
+        self.error = 0;
     }
 }
 

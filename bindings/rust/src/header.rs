@@ -130,7 +130,7 @@ pub struct FixedHeader {
     pub id: u32,
 }
 
-/// Reads a fixed header: exactly 16 bytes that begin a frame. It tells which kind to read a stream frame as.
+/// Reads a fixed header: exactly 16 bytes that begin a frame. It says which kind to read a stream frame as.
 ///
 /// The errors are those of [`header_check`].
 ///
@@ -146,8 +146,8 @@ pub struct FixedHeader {
 /// ```
 pub fn parse_header(bytes: &[u8]) -> Result<FixedHeader, Error> {
     let (mut frame_type, mut total, mut header_size, mut id) = (0, 0, 0, 0);
-    // SAFETY: the pointer and the length are those of a slice, which the function only reads; the numbers are locals that it
-    // alone writes.
+    // SAFETY: the pointer and the length are those of a slice, which the function only reads; the numbers are locals that
+    // only it writes.
     let code = unsafe {
         ffi::trpc_header_parse(bytes.as_ptr(), bytes.len(), &mut frame_type, &mut total, &mut header_size, &mut id)
     };

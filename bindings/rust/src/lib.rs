@@ -1,8 +1,10 @@
 //! Safe Rust bindings of Bekurapi, a verified library for tRPC frames: it cuts a stream into frames, reads and writes their
 //! messages, and keeps a queue of waiting jobs.
 //!
-//! Every answer is the library's own, and its contracts are proved. These bindings add Rust's types: they lend the buffers as
-//! the C interface wants them lent, and give byte fields as parts of the frame. Each `unsafe` block is one call.
+//! Every answer is that of the library, whose contracts are proved of its source. The one exception is a record with byte
+//! fields of over 4 GiB in all, which these bindings refuse themselves, in the library's order. They add Rust's types: they
+//! lend the buffers as the C interface wants them lent, and give byte fields as parts of the frame. Each `unsafe` block is one
+//! call.
 //!
 //! ```
 //! use bekurapi::{read, to_vec, Deframer, End, Job, Kind, Queue, Record, Request, Response};

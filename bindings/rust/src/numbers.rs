@@ -3,13 +3,13 @@
 use crate::record::{Close, Feedback, Init, Kind, Record, Request, RequestMeta, Response, ResponseMeta};
 use crate::trans_info::TransInfo;
 
-/// How many numbers a record has.
+/// How many numbers a record has, as the library's readers and writers take it.
 pub const RECORD_NUMBERS: usize = 24;
 
 /// How many row numbers a reader is lent, four for each of up to 64 pairs.
 pub const ROW_NUMBERS: usize = 256;
 
-// Where the numbers of a record stand. A part, like a byte field, is two numbers: start and length.
+// Where the numbers of a record are. A part, like a byte field, is two numbers: start and length.
 const ID: usize = 0;
 const ROW_COUNT: usize = 1;
 const HEADER: usize = 2;
@@ -283,7 +283,7 @@ impl<'a> Source<'a> {
         }
     }
 
-    /// The start and length of a part that goes behind the others; 0, 0 for an empty one.
+    /// The start and length of a part that goes after the others; 0, 0 for an empty one.
     fn span(&mut self, part: &'a [u8]) -> [u32; 2] {
         if part.is_empty() {
             return [0, 0];
@@ -295,7 +295,8 @@ impl<'a> Source<'a> {
     }
 }
 
-/// A count as a record has it. One above 32 bits is never written: `write` refuses such a source, and the library so many rows.
+/// A count as a record has it. One above 32 bits is never handed over: `write` refuses so many source bytes itself, and rows
+/// that are so many have more source bytes or are refused by the library.
 fn clamped(count: usize) -> u32 {
     u32::try_from(count).unwrap_or(u32::MAX)
 }

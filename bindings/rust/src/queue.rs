@@ -33,7 +33,24 @@ pub const LATEST_ARRIVAL: u64 = 1 << 62;
 /// let job = bekurapi::Job { connection: 1, request: 7, timeout: 600_000, arrival: 0 };
 /// assert_eq!(job.timeout, 600_000);
 /// ```
-pub use bekurapi_sys::Job;
+#[derive(Clone, Copy, Debug, Default, PartialEq, Eq, Hash)]
+pub struct Job {
+    /// The connection that the request came on.
+    pub connection: u32,
+    /// The request id of the frame's fixed header.
+    pub request: u32,
+    /// In ms; 0 is no deadline.
+    pub timeout: u32,
+    /// In ms; at most [`LATEST_ARRIVAL`].
+    pub arrival: u64,
+}
+
+impl Job {
+    /// The job of the C interface's struct, which has a number zero beside these.
+    fn of(job: &ffi::Job) -> Job {
+        Job { connection: job.connection, request: job.request, timeout: job.timeout, arrival: job.arrival }
+    }
+}
 
 /// Up to 64 waiting jobs. The one whose arrival plus timeout is the least is taken first, of several such the one that was
 /// accepted first; one with no deadline comes after all that have one.
@@ -57,16 +74,16 @@ impl Queue {
     /// A queue in which nothing waits.
     ///
     /// ```
-    /// assert!(bekurapi::Queue::new().jobs().is_empty());
+    /// assert_eq!(bekurapi::Queue::new().len(), 0);
     /// ```
     pub fn new() -> Queue {
-        let mut queue = ffi::Queue { jobs: [Job::default(); CAPACITY], count: 0 };
+        let mut queue = ffi::Queue { jobs: [ffi::Job::default(); CAPACITY], count: 0 };
         // SAFETY: the queue is a local.
         unsafe { ffi::trpc_queue_init(&mut queue) };
         Queue(queue)
     }
 
-    /// Puts a job behind those that wait.
+    /// Puts a job after those that wait.
     ///
     /// The errors, in this order: [`Error::Arrival`], [`Error::Duplicate`] where the pair waits already, [`Error::QueueFull`].
     /// A job that is refused leaves the queue as it was.
@@ -97,10 +114,10 @@ impl Queue {
     /// assert_eq!(queue.take(), Ok(job));
     /// ```
     pub fn take(&mut self) -> Result<Job, Error> {
-        let mut removed = Job::default();
+        let mut removed = ffi::Job::default();
         // SAFETY: the queue is borrowed exclusively, and `removed` is a local outside it.
         checked(unsafe { ffi::trpc_queue_take(&mut self.0, &mut removed) })?;
-        Ok(removed)
+        Ok(Job::of(&removed))
     }
 
     /// Removes the job of a pair, connection number and request id. The error is [`Error::Absent`].
@@ -115,10 +132,10 @@ impl Queue {
     /// assert_eq!(queue.cancel(1, 7), Ok(job));
     /// ```
     pub fn cancel(&mut self, connection: u32, request: u32) -> Result<Job, Error> {
-        let mut removed = Job::default();
+        let mut removed = ffi::Job::default();
         // SAFETY: as in `take`.
         checked(unsafe { ffi::trpc_queue_cancel(&mut self.0, connection, request, &mut removed) })?;
-        Ok(removed)
+        Ok(Job::of(&removed))
     }
 
     /// The jobs that wait, in order of acceptance.
@@ -129,10 +146,32 @@ impl Queue {
     /// let mut queue = Queue::new();
     /// let job = Job { connection: 1, request: 7, timeout: 500, arrival: 0 };
     /// queue.add(job).unwrap();
-    /// assert_eq!(queue.jobs(), [job]);
+    /// assert!(queue.jobs().eq([job]));
     /// ```
-    pub fn jobs(&self) -> &[Job] {
-        &self.0.jobs[..self.0.count]
+    pub fn jobs(&self) -> impl ExactSizeIterator<Item = Job> + '_ {
+        self.0.jobs[..self.0.count].iter().map(Job::of)
+    }
+
+    /// How many jobs wait.
+    ///
+    /// ```
+    /// use bekurapi::{Job, Queue};
+    ///
+    /// let mut queue = Queue::new();
+    /// queue.add(Job::default()).unwrap();
+    /// assert_eq!(queue.len(), 1);
+    /// ```
+    pub fn len(&self) -> usize {
+        self.0.count
+    }
+
+    /// Whether nothing waits.
+    ///
+    /// ```
+    /// assert!(bekurapi::Queue::new().is_empty());
+    /// ```
+    pub fn is_empty(&self) -> bool {
+        self.0.count == 0
     }
 }
 

@@ -53,19 +53,10 @@ pub struct Message<'a> {
 pub fn read(kind: Kind, frame: &[u8]) -> Result<Message<'_>, Error> {
     let mut rows = [0; ROW_NUMBERS];
     let mut record = [0; RECORD_NUMBERS];
-    // SAFETY: each pointer with a length is a slice's or an array's. The frame is only read; the arrays are locals that the
-    // function alone writes.
-    let code = unsafe {
-        ffi::trpc_read(
-            kind as u32,
-            frame.as_ptr(),
-            frame.len(),
-            rows.as_mut_ptr(),
-            rows.len(),
-            record.as_mut_ptr(),
-            record.len(),
-        )
-    };
+    let read = reader(kind);
+    // SAFETY: each pointer with a length is a slice's or an array's, and a record has 24 numbers. The frame is only read; the
+    // arrays are locals that only the function writes.
+    let code = unsafe { read(frame.as_ptr(), frame.len(), rows.as_mut_ptr(), rows.len(), &mut record) };
     checked(code)?;
     let mut numbers = Numbers::new(frame, record, rows);
     Ok(Message {
@@ -75,4 +66,16 @@ pub fn read(kind: Kind, frame: &[u8]) -> Result<Message<'_>, Error> {
         body: numbers.body(),
         attachment: numbers.attachment(),
     })
+}
+
+/// The library's reader of a kind.
+fn reader(kind: Kind) -> ffi::Reader {
+    match kind {
+        Kind::Request => ffi::trpc_read_request,
+        Kind::Response => ffi::trpc_read_response,
+        Kind::Init => ffi::trpc_read_init,
+        Kind::Data => ffi::trpc_read_data,
+        Kind::Feedback => ffi::trpc_read_feedback,
+        Kind::Close => ffi::trpc_read_close,
+    }
 }

@@ -11,20 +11,19 @@ use crate::trans_info::TransInfo;
 /// assert_eq!(read(Kind::Feedback, &frame), Err(Error::LengthOrKind));
 /// ```
 #[derive(Clone, Copy, Debug, PartialEq, Eq, Hash)]
-#[repr(u32)]
 pub enum Kind {
     /// A unary frame from the caller.
-    Request = 0,
+    Request,
     /// A unary frame that answers a request.
-    Response = 1,
+    Response,
     /// Opens a stream.
-    Init = 2,
+    Init,
     /// Raw bytes of a stream.
-    Data = 3,
+    Data,
     /// Grants a stream more window.
-    Feedback = 4,
+    Feedback,
     /// Closes a stream.
-    Close = 5,
+    Close,
 }
 
 /// A message by its kind.
@@ -43,7 +42,7 @@ pub enum Record<'a> {
     Response(Response<'a>),
     /// The message of an Init frame.
     Init(Init<'a>),
-    /// A Data frame, which has a body alone.
+    /// A Data frame, which has only a body.
     Data,
     /// The message of a Feedback frame.
     Feedback(Feedback),

@@ -64,6 +64,12 @@ impl<'a> TransInfo<'a> {
         self.iter().find(|(known, _)| *known == key.as_ref()).map(|(_, value)| value)
     }
 
+    /// Whether a key comes twice.
+    pub(crate) fn has_equal_keys(&self) -> bool {
+        let key = |place: usize| self.pairs[place].0;
+        (0..self.pairs.len()).any(|later| (0..later).any(|earlier| key(earlier) == key(later)))
+    }
+
     /// The pairs of key and value, in their order.
     ///
     /// ```

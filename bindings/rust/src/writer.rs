@@ -1,16 +1,21 @@
 use crate::error::{checked, Error};
 use crate::header::{HEADER_SIZE, MAX_FRAME};
 use crate::numbers::Source;
-use crate::record::Record;
+use crate::record::{Kind, Record};
 use bekurapi_sys as ffi;
+
+/// How many pairs of a map can be written.
+const MOST_ROWS: usize = 64;
 
 /// Writes the frame of a record with its id and body to the start of `out`, and returns the frame's size. Bytes of `out` past
 /// the frame stay as they were, and after an error all of them do.
 ///
 /// The errors, in this order: [`Error::Rows`] where the map has over 64 pairs or equal keys; [`Error::Attachment`] where it is
 /// larger than the body, or where Init, Feedback or Close have a body; [`Error::FrameSize`]; [`Error::HeaderMessage`];
-/// [`Error::OutputTooShort`]. Byte fields of over 4 GiB in all, whose starts have no 32-bit number, are
-/// [`Error::FrameSize`] before all else.
+/// [`Error::OutputTooShort`].
+///
+/// What was read can be handed to the writer. It may be refused with [`Error::FrameSize`]: the frame written may be longer than
+/// the one read. No other error is ruled out yet.
 ///
 /// ```
 /// use bekurapi::{write, Error, Feedback, Record};
@@ -58,17 +63,16 @@ fn most_bytes(source: &Source, body: &[u8]) -> usize {
 
 fn write_source(record: &Record<'_>, source: &Source, body: &[u8], out: &mut [u8]) -> Result<usize, Error> {
     if u32::try_from(source.len()).is_err() {
-        return Err(Error::FrameSize);
+        return Err(error_of_too_long(record, body));
     }
     let bytes = source.bytes();
     let mut size = 0;
-    // SAFETY: each pointer with a length is a slice's or an array's. All but the output are only read; it is borrowed
-    // exclusively and so overlaps none of them. `size` is a local that the function alone writes.
+    let write = writer(record.kind());
+    // SAFETY: each pointer with a length is a slice's, and a record has 24 numbers. All but the output are only read; it is
+    // borrowed exclusively and so overlaps none of them. `size` is a local that only the function writes.
     let code = unsafe {
-        ffi::trpc_write(
-            record.kind() as u32,
-            source.record.as_ptr(),
-            source.record.len(),
+        write(
+            &source.record,
             bytes.as_ptr(),
             bytes.len(),
             source.rows.as_ptr(),
@@ -82,4 +86,83 @@ fn write_source(record: &Record<'_>, source: &Source, body: &[u8], out: &mut [u8
     };
     checked(code)?;
     Ok(size)
+}
+
+/// The library's writer of a kind.
+fn writer(kind: Kind) -> ffi::Writer {
+    match kind {
+        Kind::Request => ffi::trpc_write_request,
+        Kind::Response => ffi::trpc_write_response,
+        Kind::Init => ffi::trpc_write_init,
+        Kind::Data => ffi::trpc_write_data,
+        Kind::Feedback => ffi::trpc_write_feedback,
+        Kind::Close => ffi::trpc_write_close,
+    }
+}
+
+/// The error of a record whose frame is over 65,536 bytes, in the library's order. It serves where byte fields have over 4 GiB
+/// in all: their starts have no 32-bit number, so the library can't be asked.
+fn error_of_too_long(record: &Record<'_>, body: &[u8]) -> Error {
+    let (info, attachment_size, takes_body) = match record {
+        Record::Request(request) => (Some(&request.trans_info), request.attachment_size, true),
+        Record::Response(response) => (Some(&response.trans_info), response.attachment_size, true),
+        Record::Init(init) => (init.request_meta.as_ref().map(|meta| &meta.trans_info), 0, false),
+        Record::Data => (None, 0, true),
+        Record::Feedback(_) => (None, 0, false),
+        Record::Close(close) => (Some(&close.trans_info), 0, false),
+    };
+    if info.is_some_and(|info| info.len() > MOST_ROWS || info.has_equal_keys()) {
+        return Error::Rows;
+    }
+    if attachment_size as usize > body.len() || (!takes_body && !body.is_empty()) {
+        return Error::Attachment;
+    }
+    Error::FrameSize
+}
+
+#[cfg(test)]
+mod tests {
+    use super::*;
+    use crate::record::{Close, Init, Request, RequestMeta, Response};
+    use crate::trans_info::TransInfo;
+
+    /// Maps that can be written, that have equal keys, and that have too many pairs.
+    fn maps(keys: &[String]) -> [TransInfo<'_>; 4] {
+        let map = |count: usize| keys[..count].iter().map(|key| (key, key)).collect();
+        [TransInfo::new(), map(64), map(65), TransInfo::from([("a", "1"), ("b", "2"), ("a", "3")])]
+    }
+
+    fn long_records<'a>(long: &'a [u8], trans_info: TransInfo<'a>, attachment_size: u32) -> Vec<Record<'a>> {
+        let info = || trans_info.clone();
+        let meta = RequestMeta { func: long, trans_info: info(), ..RequestMeta::default() };
+        vec![
+            Record::Request(Request { func: long, trans_info: info(), attachment_size, ..Request::default() }),
+            Record::Response(Response { error_msg: long, trans_info: info(), attachment_size, ..Response::default() }),
+            Record::Init(Init { request_meta: Some(meta), ..Init::default() }),
+            Record::Close(Close { msg: long, trans_info: info(), ..Close::default() }),
+        ]
+    }
+
+    /// On records that are too long, and not so long that the library can't be asked, it answers the same.
+    #[test]
+    fn too_long_as_the_library_says() {
+        let long = vec![b'l'; MAX_FRAME];
+        let keys: Vec<String> = (0..65).map(|number| number.to_string()).collect();
+        let mut counts = [0; 3];
+        for map in maps(&keys) {
+            for attachment_size in [0, 4, 5, u32::MAX] {
+                for record in long_records(&long, map.clone(), attachment_size) {
+                    for body in [&b""[..], b"four"] {
+                        let error = error_of_too_long(&record, body);
+                        assert_eq!(to_vec(1, &record, body), Err(error));
+                        counts[[Error::Rows, Error::Attachment, Error::FrameSize]
+                            .iter()
+                            .position(|&e| e == error)
+                            .unwrap()] += 1;
+                    }
+                }
+            }
+        }
+        assert!(counts.iter().all(|&count| count >= 8));
+    }
 }

@@ -91,17 +91,26 @@ fn every_refused_header() {
 #[test]
 fn a_refused_header_is_not_judged_sooner_and_stays() {
     let mut deframer = Deframer::new();
-    assert_eq!(deframer.push(&[0x30; 15]), Ok(Progress { taken: 15, frame: None }));
+    assert_eq!(deframer.push(&[0x30; 15]), Progress { taken: 15, frame: Ok(None) });
     assert_eq!(deframer.finish(), Ok(End::Short(15)));
     let mut piece = &[0x30; 4][..];
     assert_eq!(deframer.next_frame(&mut piece), Err(Error::Magic));
     assert_eq!(piece.len(), 3);
     for piece in [&[0x09; 40][..], &[]] {
-        assert_eq!(deframer.push(piece), Err(Error::Magic));
+        assert_eq!(deframer.push(piece), Progress { taken: 0, frame: Err(Error::Magic) });
     }
     assert_eq!(deframer.held(), [0x30; 16]);
     deframer.reset();
-    assert_eq!(deframer.push(&frames()[0]).unwrap().frame, Some(&frames()[0][..]));
+    assert_eq!(deframer.push(&frames()[0]).frame, Ok(Some(&frames()[0][..])));
+}
+
+#[test]
+fn a_refused_push_says_what_it_took() {
+    for held in 0..16 {
+        let mut deframer = Deframer::new();
+        assert_eq!(deframer.push(&[0x30; 15][..held]), Progress { taken: held, frame: Ok(None) });
+        assert_eq!(deframer.push(&[0x30; 40]), Progress { taken: 16 - held, frame: Err(Error::Magic) });
+    }
 }
 
 #[test]

@@ -97,7 +97,7 @@ fn what_is_written_reads_as_it_was() {
 }
 
 #[test]
-fn one_meta_part_alone() {
+fn only_one_meta_part() {
     let asks = Init { request_meta: Some(RequestMeta::default()), ..Init::default() };
     let answers = Init { response_meta: Some(ResponseMeta::default()), ..Init::default() };
     for (init, header) in [(asks, [0x0a, 0]), (answers, [0x12, 0])] {
@@ -117,7 +117,7 @@ fn attachments_are_the_end_of_the_body() {
 }
 
 #[test]
-fn a_frame_reads_as_its_own_kind_alone() {
+fn a_frame_reads_only_as_its_own_kind() {
     for record in full_records() {
         let frame = to_vec(1, &record, body_of(&record)).unwrap();
         let unary = |kind| matches!(kind, Kind::Request | Kind::Response);
@@ -243,14 +243,39 @@ fn frames_up_to_the_largest() {
     assert_eq!(to_vec(1, &request(most + 1), b""), Err(Error::FrameSize));
 }
 
-/// Starts of so many source bytes have no 32-bit number: 19 comes before 18, and none of the bytes is copied.
+/// An entry with no value reads as one with an empty value, which is written in two bytes more.
+#[test]
+fn what_was_read_may_be_too_long_to_write() {
+    let entry = [0x4a, 3, 0x0a, 1, b'k'];
+    let body = vec![b'b'; MAX_FRAME - 16 - entry.len()];
+    for (body, written) in [(&body[..], Err(Error::FrameSize)), (&body[2..], Ok(MAX_FRAME))] {
+        let frame = unary(&entry, body);
+        let message = read(Kind::Request, &frame).unwrap();
+        assert_eq!(to_vec(message.id, &message.record, message.body).map(|frame| frame.len()), written);
+    }
+}
+
+/// Starts of so many source bytes have no 32-bit number: none of them is copied, and 18 and 15 come before 19 all the same.
 #[test]
 fn more_than_4_gib() {
     let long = vec![0; 1 << 26];
-    let info = (0..65).map(|_| ("cell", &long)).collect();
-    let request = Record::Request(Request { trans_info: info, ..Request::default() });
-    assert_eq!(to_vec(1, &request, b""), Err(Error::FrameSize));
-    assert_eq!(write(1, &request, b"", &mut []), Err(Error::FrameSize));
+    let keys: Vec<String> = (0..65).map(|number| number.to_string()).collect();
+    let written = |keys: &[String], attachment_size, body| {
+        let trans_info = keys.iter().map(|key| (key, &long)).collect();
+        let request = Record::Request(Request { trans_info, attachment_size, ..Request::default() });
+        let error = to_vec(1, &request, body).unwrap_err();
+        assert_eq!(write(1, &request, body, &mut []), Err(error));
+        error
+    };
+    let equal = [&keys[..63], &keys[..1]].concat();
+    assert_eq!(written(&keys, 9, b"four"), Error::Rows);
+    assert_eq!(written(&equal, 9, b"four"), Error::Rows);
+    assert_eq!(written(&keys[..64], 5, b"four"), Error::Attachment);
+    assert_eq!(written(&keys[..64], 4, b"four"), Error::FrameSize);
+    let trans_info = keys[..64].iter().map(|key| (key, &long)).collect();
+    let close = Record::Close(Close { trans_info, ..Close::default() });
+    assert_eq!(to_vec(1, &close, b"four"), Err(Error::Attachment));
+    assert_eq!(to_vec(1, &close, b""), Err(Error::FrameSize));
 }
 
 #[test]

@@ -68,7 +68,8 @@ fn random_calls() {
                 jobs.extend(added.is_ok().then_some(job));
             }
         }
-        assert_eq!(queue.jobs(), jobs);
+        assert!(queue.jobs().eq(jobs.iter().copied()));
+        assert_eq!((queue.len(), queue.is_empty()), (jobs.len(), jobs.is_empty()));
     }
 }
 

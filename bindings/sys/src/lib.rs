@@ -1,5 +1,6 @@
 //! The functions of include/bekurapi.h, which says what each promises. None of them keeps a pointer, and none keeps state beside
-//! what is lent. This is the one place in Rust that declares them: nothing checks a declaration but the tests.
+//! what is lent. A pointer with a length may be null where the length is 0. This is the one place in Rust that declares them:
+//! nothing checks a declaration but the tests.
 
 /// `struct trpc_job`.
 #[repr(C)]
@@ -11,6 +12,8 @@ pub struct Job {
     pub request: u32,
     /// In ms; 0 is no deadline.
     pub timeout: u32,
+    /// 0 in a job that was added and in a place that was freed; moves with its job, and is never looked at.
+    pub zero: u32,
     /// In ms; at most 2^62.
     pub arrival: u64,
 }
@@ -19,14 +22,83 @@ pub struct Job {
 #[repr(C)]
 #[derive(Clone, Copy)]
 pub struct Queue {
-    /// The jobs; what stands past the count is none.
+    /// The jobs; what is past the count is none.
     pub jobs: [Job; 64],
     /// How many wait.
     pub count: usize,
 }
 
-// As C lays them out.
-const _: () = assert!(size_of::<Job>() == 24 && size_of::<Queue>() == 64 * 24 + 8);
+// As C lays them out, without a byte that is no member's.
+const _: () = assert!(size_of::<Job>() == 4 * 4 + 8 && size_of::<Queue>() == 64 * 24 + 8);
+
+/// The record of a kind: the 24 numbers of its struct, in their order.
+pub type Numbers = [u32; 24];
+
+/// A reader: frame and length, rows and length, record.
+pub type Reader = unsafe extern "C" fn(*const u8, usize, *mut u32, usize, *mut Numbers) -> u32;
+
+/// A writer: record, source and length, rows and length, body and length, output and length, size.
+#[rustfmt::skip]
+pub type Writer = unsafe extern "C" fn(
+    *const Numbers, *const u8, usize, *const u32, usize, *const u8, usize, *mut u8, usize, *mut usize,
+) -> u32;
+
+/// Declares readers, each a [`Reader`].
+macro_rules! readers {
+    ($($(#[$doc:meta])* $name:ident)*) => { extern "C" { $(
+        $(#[$doc])*
+        pub fn $name(frame: *const u8, frame_len: usize, rows: *mut u32, rows_len: usize, record: *mut Numbers) -> u32;
+    )* } };
+}
+
+/// Declares writers, each a [`Writer`].
+macro_rules! writers {
+    ($($(#[$doc:meta])* $name:ident)*) => { extern "C" { $(
+        $(#[$doc])*
+        pub fn $name(
+            record: *const Numbers,
+            source: *const u8,
+            source_len: usize,
+            rows: *const u32,
+            rows_len: usize,
+            body: *const u8,
+            body_len: usize,
+            out: *mut u8,
+            out_len: usize,
+            size: *mut usize,
+        ) -> u32;
+    )* } };
+}
+
+readers! {
+    /// Reads a frame as a request, `struct trpc_request`.
+    trpc_read_request
+    /// Reads a frame as a response, `struct trpc_response`.
+    trpc_read_response
+    /// Reads an Init frame, `struct trpc_init`.
+    trpc_read_init
+    /// Reads a Data frame, `struct trpc_data`.
+    trpc_read_data
+    /// Reads a Feedback frame, `struct trpc_feedback`.
+    trpc_read_feedback
+    /// Reads a Close frame, `struct trpc_close`.
+    trpc_read_close
+}
+
+writers! {
+    /// Writes the frame of a request, `struct trpc_request`.
+    trpc_write_request
+    /// Writes the frame of a response, `struct trpc_response`.
+    trpc_write_response
+    /// Writes an Init frame, `struct trpc_init`.
+    trpc_write_init
+    /// Writes a Data frame, `struct trpc_data`.
+    trpc_write_data
+    /// Writes a Feedback frame, `struct trpc_feedback`.
+    trpc_write_feedback
+    /// Writes a Close frame, `struct trpc_close`.
+    trpc_write_close
+}
 
 extern "C" {
     /// Checks a fixed header.
@@ -57,37 +129,10 @@ extern "C" {
     /// The end of the stream.
     pub fn trpc_finish(held: usize, error: u32, buffer: *const u8, buffer_len: usize, short_by: *mut usize) -> u32;
 
-    /// Reads a frame as a kind.
-    pub fn trpc_read(
-        kind: u32,
-        frame: *const u8,
-        frame_len: usize,
-        rows: *mut u32,
-        rows_len: usize,
-        record: *mut u32,
-        record_len: usize,
-    ) -> u32;
-
-    /// Writes the frame of a record.
-    pub fn trpc_write(
-        kind: u32,
-        record: *const u32,
-        record_len: usize,
-        source: *const u8,
-        source_len: usize,
-        rows: *const u32,
-        rows_len: usize,
-        body: *const u8,
-        body_len: usize,
-        out: *mut u8,
-        out_len: usize,
-        size: *mut usize,
-    ) -> u32;
-
     /// Makes the queue one in which nothing waits.
     pub fn trpc_queue_init(queue: *mut Queue);
 
-    /// Puts a job behind those that wait.
+    /// Puts a job after those that wait.
     pub fn trpc_queue_add(queue: *mut Queue, connection: u32, request: u32, timeout: u32, arrival: u64) -> u32;
 
     /// Removes the job that is due first.

@@ -28,6 +28,11 @@ impl<T: Copy + PartialEq + std::fmt::Debug> Lent<T> {
         &mut self.all[GUARD..end]
     }
 
+    /// The content of something of so many places.
+    pub fn array<const N: usize>(&mut self) -> &mut [T; N] {
+        self.get_mut().try_into().unwrap()
+    }
+
     fn guards_stand(&self) -> bool {
         let (before, behind) = (&self.all[..GUARD], &self.all[self.all.len() - GUARD..]);
         before.iter().chain(behind).all(|guard| *guard == self.guard)

@@ -1,7 +1,8 @@
 //! The library under test, through its C interface (include/bekurapi.h): safe functions over its declarations.
 
 use crate::reference::deframer::State;
-use crate::reference::interface::{Deframed, Finished, Parsed, Removed, Written};
+use crate::reference::interface::{Deframed, Finished, Numbers, Parsed, Removed, Written};
+use crate::reference::messages::Kind;
 use crate::reference::queue::{Job, Queue};
 
 #[cfg(not(feature = "library"))]
@@ -9,10 +10,10 @@ use crate::stand_in as c;
 #[cfg(feature = "library")]
 use bekurapi_sys as c;
 
-/// What stands where the library has to put an answer, so that one which it leaves out is seen.
+/// What is where the library has to put an answer, so that one which it leaves out is seen.
 const NO_ANSWER: usize = 0x5555_5555_5555;
 const NO_NUMBER: u32 = 0x5555_5555;
-const NO_JOB: Job = Job { connection: 1, request: 2, timeout: 3, arrival: 4 };
+const NO_JOB: Job = Job { connection: 1, request: 2, timeout: 3, zero: 5, arrival: 4 };
 
 // SAFETY, for every function below: each pointer is that of a slice or reference that lives through the call, with the slice's
 // length beside it, and the library keeps none of them. The reference's jobs and queues are laid out as C's are.
@@ -53,19 +54,39 @@ pub fn finish(state: State, buffer: &[u8]) -> Finished {
     Finished { error, short_by }
 }
 
-pub fn read(kind: u32, frame: &[u8], rows: &mut [u32], record: &mut [u32]) -> u32 {
-    unsafe {
-        c::trpc_read(kind, frame.as_ptr(), frame.len(), rows.as_mut_ptr(), rows.len(), record.as_mut_ptr(), record.len())
+fn reader(kind: Kind) -> c::Reader {
+    match kind {
+        Kind::Request => c::trpc_read_request,
+        Kind::Response => c::trpc_read_response,
+        Kind::Init => c::trpc_read_init,
+        Kind::Data => c::trpc_read_data,
+        Kind::Feedback => c::trpc_read_feedback,
+        Kind::Close => c::trpc_read_close,
     }
 }
 
-pub fn write(kind: u32, record: &[u32], source: &[u8], rows: &[u32], body: &[u8], out: &mut [u8]) -> Written {
+fn writer(kind: Kind) -> c::Writer {
+    match kind {
+        Kind::Request => c::trpc_write_request,
+        Kind::Response => c::trpc_write_response,
+        Kind::Init => c::trpc_write_init,
+        Kind::Data => c::trpc_write_data,
+        Kind::Feedback => c::trpc_write_feedback,
+        Kind::Close => c::trpc_write_close,
+    }
+}
+
+pub fn read(kind: Kind, frame: &[u8], rows: &mut [u32], record: &mut Numbers) -> u32 {
+    let read = reader(kind);
+    unsafe { read(frame.as_ptr(), frame.len(), rows.as_mut_ptr(), rows.len(), record) }
+}
+
+pub fn write(kind: Kind, record: &Numbers, source: &[u8], rows: &[u32], body: &[u8], out: &mut [u8]) -> Written {
     let mut size = NO_ANSWER;
+    let write = writer(kind);
     let error = unsafe {
-        c::trpc_write(
-            kind,
-            record.as_ptr(),
-            record.len(),
+        write(
+            record,
             source.as_ptr(),
             source.len(),
             rows.as_ptr(),
@@ -90,8 +111,8 @@ pub fn queue_init(queue: &mut Queue) {
     unsafe { c::trpc_queue_init(lent(queue)) }
 }
 
-pub fn queue_add(queue: &mut Queue, job: Job) -> u32 {
-    unsafe { c::trpc_queue_add(lent(queue), job.connection, job.request, job.timeout, job.arrival) }
+pub fn queue_add(queue: &mut Queue, connection: u32, request: u32, timeout: u32, arrival: u64) -> u32 {
+    unsafe { c::trpc_queue_add(lent(queue), connection, request, timeout, arrival) }
 }
 
 pub fn queue_take(queue: &mut Queue) -> Removed {

@@ -3,25 +3,28 @@
 
 use crate::reference::deframer::State;
 use crate::reference::header;
-use crate::reference::interface;
+use crate::reference::interface::{self, Numbers, Written};
+use crate::reference::messages::Kind;
 use crate::reference::queue::{Job, Queue};
 use std::slice::{from_raw_parts, from_raw_parts_mut};
 use std::sync::OnceLock;
 
 pub static FAULT: OnceLock<String> = OnceLock::new();
 
-pub const FAULTS: [&str; 11] = [
+pub const FAULTS: [&str; 13] = [
     "header-size-of-total",
     "id-of-16-bits",
     "taken-one-less",
     "held-forgotten",
     "byte-behind-the-frame",
     "timeout-of-seven-bits",
+    "close-read-as-feedback",
     "last-number-kept",
     "first-value-kept",
     "written-past-the-frame",
     "minus-one-in-five-bytes",
     "due-in-32-bits",
+    "zero-as-it-was",
 ];
 
 fn fault(name: &str) -> bool {
@@ -93,64 +96,90 @@ pub unsafe fn trpc_finish(held: usize, error: u32, buffer: *const u8, buffer_len
     end.error
 }
 
-pub unsafe fn trpc_read(
-    kind: u32,
-    frame: *const u8,
-    frame_len: usize,
-    rows: *mut u32,
-    rows_len: usize,
-    record: *mut u32,
-    record_len: usize,
-) -> u32 {
-    let frame = from_raw_parts(frame, frame_len);
-    let rows = from_raw_parts_mut(rows, rows_len);
-    let record = from_raw_parts_mut(record, record_len);
+pub type Reader = unsafe fn(*const u8, usize, *mut u32, usize, *mut Numbers) -> u32;
+
+#[rustfmt::skip]
+pub type Writer = unsafe fn(
+    *const Numbers, *const u8, usize, *const u32, usize, *const u8, usize, *mut u8, usize, *mut usize,
+) -> u32;
+
+fn read(kind: Kind, frame: &[u8], rows: &mut [u32], record: &mut Numbers) -> u32 {
     let last = rows.get(255).copied();
     let code = interface::read(kind, frame, rows, record);
-    if fault("timeout-of-seven-bits") && kind == 0 && record_len > 11 {
+    if fault("timeout-of-seven-bits") && kind == Kind::Request {
         record[11] &= 0x7F;
+    }
+    if fault("close-read-as-feedback") && kind == Kind::Close && code == 0 {
+        record[9..].fill(0);
     }
     if fault("last-number-kept") && code == 13 {
         rows[255] = last.unwrap();
     }
-    if fault("first-value-kept") && code == 0 && record_len > 1 && record[1] == 3 {
+    if fault("first-value-kept") && code == 0 && record[1] == 3 {
         rows[2] = 0;
     }
     code
 }
 
-#[allow(clippy::too_many_arguments)]
-pub unsafe fn trpc_write(
-    kind: u32,
-    record: *const u32,
-    record_len: usize,
-    source: *const u8,
-    source_len: usize,
-    rows: *const u32,
-    rows_len: usize,
-    body: *const u8,
-    body_len: usize,
-    out: *mut u8,
-    out_len: usize,
-    size: *mut usize,
-) -> u32 {
-    let record = from_raw_parts(record, record_len);
-    let out = from_raw_parts_mut(out, out_len);
-    let body = from_raw_parts(body, body_len);
-    let answer =
-        interface::write(kind, record, from_raw_parts(source, source_len), from_raw_parts(rows, rows_len), body, out);
-    *size = answer.size;
-    if fault("written-past-the-frame") && answer.size > 40 && answer.size < out_len {
+fn write(kind: Kind, record: &Numbers, source: &[u8], rows: &[u32], body: &[u8], out: &mut [u8]) -> Written {
+    let mut answer = interface::write(kind, record, source, rows, body, out);
+    if fault("written-past-the-frame") && answer.size > 40 && answer.size < out.len() {
         out[answer.size] ^= 0xFF;
     }
-    if fault("minus-one-in-five-bytes")
-        && kind == 1
-        && answer.size > 0
-        && record.get(12).is_some_and(|ret| *ret > i32::MAX as u32)
-    {
-        *size -= 5;
+    if fault("minus-one-in-five-bytes") && kind == Kind::Response && answer.size > 0 && record[12] > i32::MAX as u32 {
+        answer.size -= 5;
     }
-    answer.error
+    answer
+}
+
+macro_rules! readers {
+    ($($name:ident $kind:ident)*) => { $(
+        pub unsafe fn $name(frame: *const u8, frame_len: usize, rows: *mut u32, rows_len: usize, record: *mut Numbers) -> u32 {
+            read(Kind::$kind, from_raw_parts(frame, frame_len), from_raw_parts_mut(rows, rows_len), &mut *record)
+        }
+    )* };
+}
+
+macro_rules! writers {
+    ($($name:ident $kind:ident)*) => { $(
+        #[allow(clippy::too_many_arguments)]
+        pub unsafe fn $name(
+            record: *const Numbers,
+            source: *const u8,
+            source_len: usize,
+            rows: *const u32,
+            rows_len: usize,
+            body: *const u8,
+            body_len: usize,
+            out: *mut u8,
+            out_len: usize,
+            size: *mut usize,
+        ) -> u32 {
+            let (source, rows) = (from_raw_parts(source, source_len), from_raw_parts(rows, rows_len));
+            let (body, out) = (from_raw_parts(body, body_len), from_raw_parts_mut(out, out_len));
+            let answer = write(Kind::$kind, &*record, source, rows, body, out);
+            *size = answer.size;
+            answer.error
+        }
+    )* };
+}
+
+readers! {
+    trpc_read_request Request
+    trpc_read_response Response
+    trpc_read_init Init
+    trpc_read_data Data
+    trpc_read_feedback Feedback
+    trpc_read_close Close
+}
+
+writers! {
+    trpc_write_request Request
+    trpc_write_response Response
+    trpc_write_init Init
+    trpc_write_data Data
+    trpc_write_feedback Feedback
+    trpc_write_close Close
 }
 
 pub unsafe fn trpc_queue_init(queue: *mut Queue) {
@@ -158,7 +187,14 @@ pub unsafe fn trpc_queue_init(queue: *mut Queue) {
 }
 
 pub unsafe fn trpc_queue_add(queue: *mut Queue, connection: u32, request: u32, timeout: u32, arrival: u64) -> u32 {
-    interface::queue_add(&mut *queue, Job { connection, request, timeout, arrival })
+    let queue = &mut *queue;
+    let place = queue.count;
+    let before = queue.jobs.get(place).map(|job| job.zero);
+    let error = interface::queue_add(queue, connection, request, timeout, arrival);
+    if fault("zero-as-it-was") && error == 0 {
+        queue.jobs[place].zero = before.unwrap();
+    }
+    error
 }
 
 pub unsafe fn trpc_queue_take(queue: *mut Queue, removed: *mut Job) -> u32 {

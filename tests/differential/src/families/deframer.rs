@@ -1,7 +1,7 @@
 //! The deframer and the end of a stream, against the reference's own deframer and against the uncut reading.
 
 use super::header::header;
-use super::reader::{filled, smaller_frames};
+use super::reader::{filled, filled_record, smaller_frames};
 use crate::difference::{hex, same, same_slices, Difference};
 use crate::generate::{damage, frame, Generator};
 use crate::lent::Lent;
@@ -9,7 +9,7 @@ use crate::library;
 use crate::random::Random;
 use crate::reference::deframer::{uncut, End, State};
 use crate::reference::header::{first, LARGEST, UNARY};
-use crate::reference::interface::{self, Finished, RECORD_NUMBERS};
+use crate::reference::interface::{self, Finished};
 use crate::reference::messages::{Kind, ROW_NUMBERS};
 use crate::run::{Family, Tally};
 use crate::shrink::{fewer, less, lower, without, Case};
@@ -96,11 +96,11 @@ impl Walk<'_> {
         };
         same_slices("a frame of the uncut reading", frame, cut)?;
         self.frame_count += 1;
-        let kind = kind_of(frame, self.stream.side) as u32;
-        let (mut rows, mut record) = (filled(ROW_NUMBERS, 1), filled(RECORD_NUMBERS, 1));
+        let kind = kind_of(frame, self.stream.side);
+        let (mut rows, mut record) = (filled(ROW_NUMBERS, 1), filled_record(1));
         let (mut lent_rows, mut lent_record) = (Lent::new(&rows, 3), Lent::new(&record, 4));
         let expected = interface::read(kind, frame, &mut rows, &mut record);
-        let actual = library::read(kind, cut, lent_rows.get_mut(), lent_record.get_mut());
+        let actual = library::read(kind, cut, lent_rows.get_mut(), lent_record.array());
         same(&"the error code of a frame's reading", &expected, &actual)?;
         lent_record.holds("the record of a frame", &record)?;
         lent_rows.holds("the row numbers of a frame", &rows)

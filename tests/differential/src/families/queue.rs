@@ -40,10 +40,11 @@ impl Calls {
                 library::queue_init(actual);
                 return Ok(());
             }
-            Call::Add(job) => {
-                let error = interface::queue_add(expected, job);
+            Call::Add(Job { connection, request, timeout, arrival, .. }) => {
+                let error = interface::queue_add(expected, connection, request, timeout, arrival);
                 tally.count(error);
-                return same(&call_name(call), &error, &library::queue_add(actual, job));
+                let got = library::queue_add(actual, connection, request, timeout, arrival);
+                return same(&call_name(call), &error, &got);
             }
             Call::Take => (interface::queue_take(expected), library::queue_take(actual)),
             Call::Cancel(connection, request) => {
@@ -77,7 +78,7 @@ impl Case for Calls {
                     same(&format_args!("job {place} after call {number}, {call:?}"), wanted, got)?;
                 }
             }
-            same(&"what stands around the queue, untouched", &[GUARD, GUARD], &[actual.before, actual.behind])?;
+            same(&"what is around the queue, untouched", &[GUARD, GUARD], &[actual.before, actual.behind])?;
         }
         Ok(())
     }
@@ -140,8 +141,9 @@ fn lower_job(job: Job) -> impl Iterator<Item = Job> {
     let connections = less(job.connection.into()).map(move |connection| Job { connection: connection as u32, ..job });
     let requests = less(job.request.into()).map(move |request| Job { request: request as u32, ..job });
     let timeouts = less(job.timeout.into()).map(move |timeout| Job { timeout: timeout as u32, ..job });
+    let zeros = less(job.zero.into()).map(move |zero| Job { zero: zero as u32, ..job });
     let arrivals = less(job.arrival).map(move |arrival| Job { arrival, ..job });
-    connections.chain(requests).chain(timeouts).chain(arrivals)
+    connections.chain(requests).chain(timeouts).chain(zeros).chain(arrivals)
 }
 
 fn pair(random: &mut Random) -> (u32, u32) {
@@ -165,7 +167,7 @@ fn job(random: &mut Random) -> Job {
         6 => u64::from(u32::MAX) + random.below(3) as u64,
         _ => random.u64() >> random.between(3, 40),
     };
-    Job { connection, request, timeout, arrival }
+    Job { connection, request, timeout, zero: 0, arrival }
 }
 
 /// Calls in a mood: one that fills the queue, one that keeps it short, and such between.
@@ -199,11 +201,12 @@ pub fn calls(family: &mut Family) {
     }
 }
 
-/// Any values in every place.
+/// Any values in every place, and in the number zero of every job.
 fn any_queue(random: &mut Random) -> Queue {
     let mut queue = Queue::default();
     for place in &mut queue.jobs {
-        *place = job(random);
+        let any = random.u32();
+        *place = Job { zero: random.pick(&[0, 1, any]), ..job(random) };
     }
     queue.count = random.pick(&[0, 1, 2, 10, 63, 64, 64, 65, 66, 1 << 32, usize::MAX]);
     queue

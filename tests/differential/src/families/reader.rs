@@ -6,39 +6,43 @@ use crate::lent::Lent;
 use crate::library;
 use crate::random::Random;
 use crate::reference::header::{first, SIZE, UNARY};
-use crate::reference::interface::{self, RECORD_NUMBERS};
+use crate::reference::interface::{self, Numbers};
 use crate::reference::messages::{Kind, ROW_NUMBERS};
 use crate::run::{Family, Tally};
 use crate::shrink::{fewer, lower, smaller_messages, Case};
 
-/// A frame read as a kind, with so many numbers lent for rows and record.
+/// A frame read as a kind, with so many row numbers lent.
 #[derive(Clone)]
 pub struct Reading {
-    pub kind: u32,
+    pub kind: Kind,
     pub frame: Vec<u8>,
     pub rows: usize,
-    pub record: usize,
 }
 
-/// What stands in the numbers lent before the call.
+/// What is in the row numbers before the call.
 pub fn filled(count: usize, with: u32) -> Vec<u32> {
     (0..count as u32).map(|place| with + place).collect()
 }
 
+/// What is in the record before the call.
+pub fn filled_record(with: u32) -> Numbers {
+    std::array::from_fn(|place| with + place as u32)
+}
+
 impl Reading {
-    fn plain(kind: u32, frame: Vec<u8>) -> Reading {
-        Reading { kind, frame, rows: ROW_NUMBERS + 8, record: RECORD_NUMBERS + 2 }
+    fn plain(kind: Kind, frame: Vec<u8>) -> Reading {
+        Reading { kind, frame, rows: ROW_NUMBERS + 8 }
     }
 }
 
 impl Case for Reading {
     fn compare(&self, tally: &mut Tally) -> Result<(), Difference> {
-        let (mut rows, mut record) = (filled(self.rows, 0xA5A5_0000), filled(self.record, 0x5A5A_0000));
+        let (mut rows, mut record) = (filled(self.rows, 0xA5A5_0000), filled_record(0x5A5A_0000));
         let (mut lent_rows, mut lent_record) = (Lent::new(&rows, 0xBEEF), Lent::new(&record, 0xFEED));
         let lent_frame = Lent::new(&self.frame, 0x08);
 
         let expected = interface::read(self.kind, &self.frame, &mut rows, &mut record);
-        let actual = library::read(self.kind, lent_frame.get(), lent_rows.get_mut(), lent_record.get_mut());
+        let actual = library::read(self.kind, lent_frame.get(), lent_rows.get_mut(), lent_record.array());
 
         tally.count(expected);
         same(&"the error code", &expected, &actual)?;
@@ -49,20 +53,16 @@ impl Case for Reading {
 
     fn smaller(&self) -> Box<dyn Iterator<Item = Reading> + '_> {
         let with = |frame| Reading { frame, ..self.clone() };
-        let slices = [(ROW_NUMBERS, RECORD_NUMBERS), (ROW_NUMBERS, self.record), (self.rows, RECORD_NUMBERS)]
-            .into_iter()
-            .filter(|(rows, record)| (*rows, *record) < (self.rows, self.record))
-            .map(|(rows, record)| Reading { rows, record, ..self.clone() });
+        let fewer_rows = (ROW_NUMBERS < self.rows).then(|| Reading { rows: ROW_NUMBERS, ..self.clone() });
         let frames = smaller_frames(&self.frame).into_iter().chain(fewer(&self.frame)).chain(lower(&self.frame));
-        Box::new(slices.chain(frames.map(with)))
+        Box::new(fewer_rows.into_iter().chain(frames.map(with)))
     }
 
     fn show(&self) -> String {
         format!(
-            "trpc_read, kind {} with {} row numbers (A5A50000 and on) and {} of a record (5A5A0000 and on)\nframe, {} bytes: {}",
+            "read as {:?} with {} row numbers (A5A50000 and on) and a record of 24 (5A5A0000 and on)\nframe, {} bytes: {}",
             self.kind,
             self.rows,
-            self.record,
             self.frame.len(),
             hex(&self.frame)
         )
@@ -98,7 +98,7 @@ pub fn short_messages(family: &mut Family) {
         0xFF,
     ];
     for kind in [Kind::Request, Kind::Response, Kind::Init, Kind::Feedback, Kind::Close] {
-        let mut check = |message: &[u8]| family.check(&Reading::plain(kind as u32, frame(kind, 7, message, &[])));
+        let mut check = |message: &[u8]| family.check(&Reading::plain(kind, frame(kind, 7, message, &[])));
         check(&[]);
         for first in 0..=255 {
             check(&[first]);
@@ -139,7 +139,7 @@ fn message_frame(random: &mut Random) -> (Kind, Vec<u8>) {
 pub fn messages(family: &mut Family) {
     for _ in 0..family.inputs {
         let (kind, frame) = message_frame(&mut family.random);
-        family.check(&Reading::plain(kind as u32, frame));
+        family.check(&Reading::plain(kind, frame));
     }
 }
 
@@ -151,7 +151,7 @@ pub fn damaged(family: &mut Family) {
         if family.random.one_in(16) {
             kind = family.random.pick(&Kind::ALL);
         }
-        family.check(&Reading::plain(kind as u32, frame));
+        family.check(&Reading::plain(kind, frame));
     }
 }
 
@@ -168,23 +168,23 @@ pub fn random_bytes(family: &mut Family) {
         let body = if kind.is_unary() { random.bytes(body_size) } else { Vec::new() };
         let id = random.u32();
         let frame = frame(kind, id, &message, &body);
-        family.check(&Reading::plain(kind as u32, frame));
+        family.check(&Reading::plain(kind, frame));
     }
 }
 
-/// Row and record slices of other lengths, and kinds that there are not.
+/// Row slices of other lengths, and frames read as every kind.
 pub fn lent_slices(family: &mut Family) {
     for _ in 0..family.inputs {
-        let (kind, mut frame) = message_frame(&mut family.random);
+        let (mut kind, mut frame) = message_frame(&mut family.random);
         let random = &mut family.random;
         if random.one_in(4) {
             damage(random, &mut frame);
         }
-        let kind = if random.one_in(4) { random.pick(&[0, 1, 2, 3, 4, 5, 6, 7, 255, u32::MAX]) } else { kind as u32 };
+        if random.one_in(4) {
+            kind = random.pick(&Kind::ALL);
+        }
         let some = random.below(400);
         let rows = random.pick(&[0, 1, 4, 255, 256, 256, 256, 257, 300, 300, some]);
-        let short = random.below(24);
-        let record = random.pick(&[0, 1, 2, 3, 7, 8, 9, 22, 23, 24, 25, 40, short]);
-        family.check(&Reading { kind, frame, rows, record });
+        family.check(&Reading { kind, frame, rows });
     }
 }

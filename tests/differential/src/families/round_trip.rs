@@ -4,7 +4,7 @@ use super::writer::{large, layout, Writing};
 use crate::difference::{same, same_slices, Difference};
 use crate::library;
 use crate::reference::header::LARGEST;
-use crate::reference::interface::RECORD_NUMBERS;
+use crate::reference::interface::{Numbers, RECORD_NUMBERS};
 use crate::reference::messages::{Kind, Span, ROW_NUMBERS};
 use crate::run::{Family, Tally};
 use crate::shrink::Case;
@@ -23,7 +23,7 @@ struct Meaning<'a> {
     body: &'a [u8],
 }
 
-fn meaning<'a>(kind: Kind, record: &[u32], source: &'a [u8], rows: &[u32], body: &'a [u8]) -> Meaning<'a> {
+fn meaning<'a>(kind: Kind, record: &Numbers, source: &'a [u8], rows: &[u32], body: &'a [u8]) -> Meaning<'a> {
     let layout = layout(kind);
     let bytes = |start, length| Span { start, length }.bytes(source);
     let numbers = layout.numbers.iter().chain(&layout.attachment);
@@ -52,11 +52,10 @@ impl Case for RoundTrip {
         let error = library::read(*kind, frame, &mut read_rows, &mut read);
         same(&"the error code of what was written", &0, &error)?;
 
-        let kind_read = Kind::ALL[*kind as usize];
         let read_body = Span { start: read[4], length: read[5] }.bytes(frame);
-        let expected = meaning(kind_read, record, source, rows, body);
-        same(&"the meaning of what was written", &expected, &meaning(kind_read, &read, frame, &read_rows, read_body))?;
-        let attachment = layout(kind_read).attachment.map_or(0, |place| record[place]);
+        let expected = meaning(*kind, record, source, rows, body);
+        same(&"the meaning of what was written", &expected, &meaning(*kind, &read, frame, &read_rows, read_body))?;
+        let attachment = layout(*kind).attachment.map_or(0, |place| record[place]);
         let attached = Span { start: read[6], length: read[7] }.bytes(frame);
         same_slices("the attachment of what was written", &body[body.len() - attachment as usize..], attached)?;
 
@@ -67,8 +66,7 @@ impl Case for RoundTrip {
     }
 
     fn smaller(&self) -> Box<dyn Iterator<Item = RoundTrip> + '_> {
-        // The meaning is taken from a whole record.
-        Box::new(self.0.smaller().filter(|writing| writing.record.len() == RECORD_NUMBERS).map(RoundTrip))
+        Box::new(self.0.smaller().map(RoundTrip))
     }
 
     fn show(&self) -> String {

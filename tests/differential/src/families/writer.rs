@@ -5,7 +5,7 @@ use crate::lent::Lent;
 use crate::library;
 use crate::random::Random;
 use crate::reference::header::LARGEST;
-use crate::reference::interface::{self, RECORD_NUMBERS};
+use crate::reference::interface::{self, Numbers, RECORD_NUMBERS};
 use crate::reference::messages::Kind;
 use crate::reference::writer::frame;
 use crate::run::{Family, Tally};
@@ -14,8 +14,8 @@ use crate::shrink::{each_less, fewer, less, lower, Case};
 /// A record to be written, and an output of so many bytes.
 #[derive(Clone)]
 pub struct Writing {
-    pub kind: u32,
-    pub record: Vec<u32>,
+    pub kind: Kind,
+    pub record: Numbers,
     pub source: Vec<u8>,
     pub rows: Vec<u32>,
     pub body: Vec<u8>,
@@ -29,21 +29,23 @@ pub struct Layout {
     pub marks: &'static [usize],
     pub attachment: Option<usize>,
     pub has_rows: bool,
+    /// Where the numbers begin that are zero.
+    pub end: usize,
 }
 
 pub fn layout(kind: Kind) -> Layout {
-    let (numbers, bytes, marks, attachment, has_rows): (&[usize], &[usize], &[usize], _, _) = match kind {
-        Kind::Request => (&[8, 9, 10, 11, 18, 19, 20], &[12, 14, 16], &[], Some(21), true),
-        Kind::Response => (&[8, 9, 10, 11, 12, 15, 16, 17], &[13], &[], Some(18), true),
-        Kind::Init => (&[15, 17, 20, 21, 22], &[9, 11, 13, 18], &[8, 16], None, true),
-        Kind::Data => (&[], &[], &[], None, false),
-        Kind::Feedback => (&[8], &[], &[], None, false),
-        Kind::Close => (&[8, 9, 12, 13], &[10], &[], None, true),
+    let (numbers, bytes, marks, attachment, has_rows, end): (&[usize], &[usize], &[usize], _, _, _) = match kind {
+        Kind::Request => (&[8, 9, 10, 11, 18, 19, 20], &[12, 14, 16], &[], Some(21), true, 22),
+        Kind::Response => (&[8, 9, 10, 11, 12, 15, 16, 17], &[13], &[], Some(18), true, 19),
+        Kind::Init => (&[15, 17, 20, 21, 22], &[9, 11, 13, 18], &[8, 16], None, true, 23),
+        Kind::Data => (&[], &[], &[], None, false, 8),
+        Kind::Feedback => (&[8], &[], &[], None, false, 9),
+        Kind::Close => (&[8, 9, 12, 13], &[10], &[], None, true, 14),
     };
-    Layout { numbers, bytes, marks, attachment, has_rows }
+    Layout { numbers, bytes, marks, attachment, has_rows, end }
 }
 
-/// What stands in an output of so many bytes before the call.
+/// What is in an output of so many bytes before the call.
 fn unwritten(count: usize) -> Vec<u8> {
     (0..count).map(|place| 0xC3 ^ place as u8).collect()
 }
@@ -53,13 +55,13 @@ impl Case for Writing {
         let Writing { kind, record, source, rows, body, .. } = self;
         let mut out = unwritten(self.out);
         let mut lent_out = Lent::new(&out, 0x5C);
-        let (lent_record, lent_rows) = (Lent::new(record, 7), Lent::new(rows, 1));
+        let (mut lent_record, lent_rows) = (Lent::new(record, 7), Lent::new(rows, 1));
         let (lent_source, lent_body) = (Lent::new(source, 0x73), Lent::new(body, 0x62));
 
         let expected = interface::write(*kind, record, source, rows, body, &mut out);
         let actual = library::write(
             *kind,
-            lent_record.get(),
+            lent_record.array(),
             lent_source.get(),
             lent_rows.get(),
             lent_body.get(),
@@ -81,22 +83,19 @@ impl Case for Writing {
         let without_row = (0..self.rows.len() / 4).filter_map(|row| {
             let mut smaller = self.clone();
             smaller.rows.drain(4 * row..4 * row + 4);
-            *smaller.record.get_mut(1)? = smaller.record[1].checked_sub(1)?;
+            smaller.record[1] = smaller.record[1].checked_sub(1)?;
             Some(smaller)
         });
-        let records = each_less(&self.record)
-            .chain((!self.record.is_empty()).then(|| self.record[..self.record.len() - 1].to_vec()))
-            .map(|record| Writing { record, ..self.clone() });
+        let records = each_less(&self.record).map(|record| Writing { record: record.try_into().unwrap(), ..self.clone() });
         let outs = less(self.out as u64).map(|out| Writing { out: out as usize, ..self.clone() });
         Box::new(bodies.chain(without_row).chain(records).chain(rows).chain(sources).chain(outs))
     }
 
     fn show(&self) -> String {
         format!(
-            "trpc_write, kind {}\nrecord, {} numbers in hex: {:X?}\nsource, {} bytes: {}\nrows, {} numbers in hex: {:X?}\n\
+            "written as {:?}\nrecord, in hex: {:X?}\nsource, {} bytes: {}\nrows, {} numbers in hex: {:X?}\n\
              body, {} bytes: {}\noutput of {} bytes",
             self.kind,
-            self.record.len(),
             self.record,
             self.source.len(),
             hex(&self.source),
@@ -111,17 +110,13 @@ impl Case for Writing {
 
 impl Writing {
     pub fn new(kind: Kind) -> Writing {
-        let record = vec![0; RECORD_NUMBERS];
-        Writing { kind: kind as u32, record, source: Vec::new(), rows: Vec::new(), body: Vec::new(), out: 0 }
-    }
-
-    fn kind(&self) -> Kind {
-        Kind::ALL[self.kind as usize]
+        let record = [0; RECORD_NUMBERS];
+        Writing { kind, record, source: Vec::new(), rows: Vec::new(), body: Vec::new(), out: 0 }
     }
 
     /// The size of its frame, were there no output to be too short.
     fn size(&self) -> Option<usize> {
-        let input = interface::input(self.kind, &self.record, &self.source, &self.rows, &self.body)?;
+        let input = interface::input(self.kind, &self.record, &self.source, &self.rows, &self.body);
         frame(&input).ok().map(|frame| frame.len())
     }
 
@@ -153,12 +148,12 @@ impl Writing {
 
     /// A record that the writer takes, but for equal keys that come by chance and the output.
     pub fn good(random: &mut Random) -> Writing {
-        let kind = random.pick(&[0, 0, 1, 1, 2, 2, 3, 4, 5, 5]);
-        let mut new = Writing::new(Kind::ALL[kind]);
+        let kind = Kind::ALL[random.pick(&[0, 0, 1, 1, 2, 2, 3, 4, 5, 5])];
+        let mut new = Writing::new(kind);
         let source_size = random.pick(&[0, 1, 30, 60, 300, 300, 700]);
         new.source = random.bytes(source_size);
         new.record[0] = random.number32();
-        let layout = layout(new.kind());
+        let layout = layout(kind);
         for place in layout.numbers {
             new.record[*place] = if random.one_in(3) { 0 } else { random.number32() };
         }
@@ -176,11 +171,11 @@ impl Writing {
                 new.push_row(random);
             }
         }
-        if new.kind() == Kind::Init {
+        if kind == Kind::Init {
             new.empty_absent_parts(random);
         }
         let body_size = random.pick(&[0, 0, 1, 5, 20, 130, 700]);
-        if matches!(new.kind(), Kind::Request | Kind::Response | Kind::Data) {
+        if matches!(kind, Kind::Request | Kind::Response | Kind::Data) {
             new.body = random.bytes(body_size);
         }
         if let Some(place) = layout.attachment {
@@ -205,33 +200,25 @@ impl Writing {
         }
     }
 
-    /// An output as long as the frame, a little shorter or longer, or any; rows and record that are longer than needed.
+    /// An output as long as the frame, a little shorter or longer, or any; rows that are more than needed; anything in the
+    /// numbers that a writer does not look at.
     fn with_slices(mut self, random: &mut Random) -> Writing {
         let exact = self.size().unwrap_or(40);
         let any = random.below(900);
         self.out = random.pick(&[exact, exact, exact, exact + 1, exact + 40, exact + 700, exact - 1, any, 0]);
-        for place in 2..8 {
+        for place in (2..8).chain(layout(self.kind).end..RECORD_NUMBERS) {
             self.record[place] = random.pick(&[0, 0, 1, 77, u32::MAX]);
         }
         if random.one_in(4) {
             let more = random.below(9);
             self.rows.extend((0..more).map(|_| random.number32()));
         }
-        match random.below(8) {
-            0 => self.record.resize(RECORD_NUMBERS + 3, 0xFFFF_FFFF),
-            1 => {
-                let used = self.record.iter().rposition(|number| *number != 0).map_or(0, |place| place + 1);
-                self.record.truncate(used);
-            }
-            2 => self.record.truncate(random.below(RECORD_NUMBERS)),
-            _ => {}
-        }
         self
     }
 
     /// Gives a ground for a refusal, where its kind can have it.
     fn fault(&mut self, random: &mut Random) {
-        let layout = layout(self.kind());
+        let layout = layout(self.kind);
         let size = self.source.len() as u32;
         let border = random.pick(&[(size + 1, 0), (size, 1), (0, size + 1)]);
         let wrapping =
@@ -260,7 +247,7 @@ impl Writing {
                 (self.rows[place], self.rows[place + 1]) = past;
             }
             7 => self.equal_keys(random),
-            8 if self.kind() == Kind::Init => {
+            8 if self.kind == Kind::Init => {
                 self.record[random.pick(&[8, 16])] = 0;
             }
             9 => match layout.attachment {
@@ -300,7 +287,7 @@ pub fn records(family: &mut Family) {
     }
 }
 
-/// One ground for a refusal, or several at once, and kinds that there are not.
+/// One ground for a refusal, or several at once.
 pub fn grounds(family: &mut Family) {
     for _ in 0..family.inputs {
         let random = &mut family.random;
@@ -308,10 +295,7 @@ pub fn grounds(family: &mut Family) {
         for _ in 0..random.pick(&[1, 1, 2, 2, 3]) {
             case.fault(random);
         }
-        let mut case = case.with_slices(random);
-        if random.one_in(32) {
-            case.kind = random.pick(&[6, 7, 256, u32::MAX]);
-        }
+        let case = case.with_slices(random);
         family.check(&case);
     }
 }
@@ -321,8 +305,8 @@ pub fn large(random: &mut Random) -> Writing {
     let mut case = Writing::good(random);
     let total = LARGEST - 3 + random.below(7);
     let byte = random.byte();
-    let layout = layout(case.kind());
-    if matches!(case.kind(), Kind::Request | Kind::Response | Kind::Data) && random.one_in(2) {
+    let layout = layout(case.kind);
+    if matches!(case.kind, Kind::Request | Kind::Response | Kind::Data) && random.one_in(2) {
         case.body.clear();
         if let Some(place) = layout.attachment {
             case.record[place] = 0;
@@ -330,7 +314,7 @@ pub fn large(random: &mut Random) -> Writing {
         case.body = vec![byte; total - case.size().unwrap_or(16)];
         return case;
     }
-    if case.kind() == Kind::Init {
+    if case.kind == Kind::Init {
         case.record[8] = 1;
         case.record[16] = 1;
     }

@@ -11,6 +11,9 @@ use super::{reader, writer};
 pub const RECORD_NUMBERS: usize = 24;
 pub const FIRST_FIELD: usize = 8;
 
+/// The record of a kind as numbers.
+pub type Numbers = [u32; RECORD_NUMBERS];
+
 /// What a fixed header says. All is 0 after a refusal.
 #[derive(Clone, Copy, Debug, Default, PartialEq, Eq)]
 pub struct Parsed {
@@ -84,50 +87,34 @@ pub fn finish(state: State, buffer: &[u8]) -> Finished {
     }
 }
 
-/// Reads a frame; the record's numbers go to the start of `record`, as many as fit.
-pub fn read(kind: u32, frame: &[u8], rows: &mut [u32], record: &mut [u32]) -> u32 {
-    let mut numbers = [0; RECORD_NUMBERS];
-    let error = match reader::read(Kind::of(kind), frame, rows) {
-        Ok(reading) => {
-            numbers[0] = reading.id;
-            numbers[1] = reading.row_count;
-            for (place, part) in [(2, reading.header), (4, reading.body), (6, reading.attachment)] {
-                numbers[place] = part.start;
-                numbers[place + 1] = part.length;
-            }
-            numbers[FIRST_FIELD..].copy_from_slice(&reading.message.numbers());
-            0
-        }
-        Err(error) => error,
+/// Reads a frame as a kind. "A refused record or job is all zero"
+pub fn read(kind: Kind, frame: &[u8], rows: &mut [u32], record: &mut Numbers) -> u32 {
+    *record = [0; RECORD_NUMBERS];
+    let reading = match reader::read(kind, frame, rows) {
+        Ok(reading) => reading,
+        Err(error) => return error,
     };
-    for (place, number) in record.iter_mut().zip(numbers) {
-        *place = number;
+    record[0] = reading.id;
+    record[1] = reading.row_count;
+    for (place, part) in [(2, reading.header), (4, reading.body), (6, reading.attachment)] {
+        record[place] = part.start;
+        record[place + 1] = part.length;
     }
-    error
+    record[FIRST_FIELD..].copy_from_slice(&reading.message.numbers());
+    0
 }
 
-/// The number of a record at a place. "Missing numbers of `record` are 0"
-fn number(record: &[u32], place: usize) -> u32 {
-    record.get(place).copied().unwrap_or(0)
-}
-
-/// The writer's input, or none where no kind has this number.
-pub fn input<'a>(kind: u32, record: &[u32], source: &'a [u8], rows: &'a [u32], body: &'a [u8]) -> Option<writer::Input<'a>> {
+/// The writer's input.
+pub fn input<'a>(kind: Kind, record: &Numbers, source: &'a [u8], rows: &'a [u32], body: &'a [u8]) -> writer::Input<'a> {
     let mut fields = [0; FIELD_NUMBERS];
-    for (index, field) in fields.iter_mut().enumerate() {
-        *field = number(record, FIRST_FIELD + index);
-    }
-    let message = Message::of(Kind::of(kind)?, &fields);
-    Some(writer::Input { id: number(record, 0), row_count: number(record, 1), message, source, rows, body })
+    fields.copy_from_slice(&record[FIRST_FIELD..]);
+    let message = Message::of(kind, &fields);
+    writer::Input { id: record[0], row_count: record[1], message, source, rows, body }
 }
 
-/// Writes the frame of a record. "An unknown kind is 9, before all else."
-pub fn write(kind: u32, record: &[u32], source: &[u8], rows: &[u32], body: &[u8], out: &mut [u8]) -> Written {
-    let written = match input(kind, record, source, rows, body) {
-        Some(input) => writer::write(&input, out),
-        None => Err(9),
-    };
-    match written {
+/// Writes the frame of a record. "a refused write counts 0 bytes"
+pub fn write(kind: Kind, record: &Numbers, source: &[u8], rows: &[u32], body: &[u8], out: &mut [u8]) -> Written {
+    match writer::write(&input(kind, record, source, rows, body), out) {
         Ok(size) => Written { error: 0, size },
         Err(error) => Written { error, size: 0 },
     }
@@ -137,8 +124,8 @@ pub fn queue_init(queue: &mut Queue) {
     *queue = Queue::default();
 }
 
-pub fn queue_add(queue: &mut Queue, job: Job) -> u32 {
-    queue.add(job).err().unwrap_or(0)
+pub fn queue_add(queue: &mut Queue, connection: u32, request: u32, timeout: u32, arrival: u64) -> u32 {
+    queue.add(Job { connection, request, timeout, zero: 0, arrival }).err().unwrap_or(0)
 }
 
 fn removed(answer: Result<Job, u32>) -> Removed {

@@ -54,12 +54,7 @@ pub enum Kind {
 }
 
 impl Kind {
-    /// The kinds by the numbers of the C interface.
     pub const ALL: [Kind; 6] = [Kind::Request, Kind::Response, Kind::Init, Kind::Data, Kind::Feedback, Kind::Close];
-
-    pub fn of(number: u32) -> Option<Kind> {
-        Kind::ALL.get(number as usize).copied()
-    }
 
     pub fn is_unary(self) -> bool {
         matches!(self, Kind::Request | Kind::Response)
@@ -192,7 +187,7 @@ impl Message {
         }
     }
 
-    /// The fields as the C interface orders them, zeros behind.
+    /// The fields as the C interface orders them, zeros after.
     #[rustfmt::skip]
     pub fn numbers(&self) -> [u32; FIELD_NUMBERS] {
         let fields = match self {

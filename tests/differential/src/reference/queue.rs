@@ -8,13 +8,15 @@ pub const CAPACITY: usize = 64;
 /// "arrival above 2^62"
 pub const LATEST: u64 = 1 << 62;
 
-/// "connection number, request id and timeout (32-bit), arrival (64-bit ms)", laid out as in C.
+/// "connection number, request id and timeout (32-bit), arrival (64-bit ms)", laid out as in C: a number zero fills the place
+/// before the arrival.
 #[repr(C)]
 #[derive(Clone, Copy, Debug, Default, PartialEq, Eq)]
 pub struct Job {
     pub connection: u32,
     pub request: u32,
     pub timeout: u32,
+    pub zero: u32,
     pub arrival: u64,
 }
 

@@ -18,10 +18,10 @@ pub struct Reading {
     pub message: Message,
 }
 
-/// Reads a frame. No kind stands for one that no frame is of.
+/// Reads a frame as a kind.
 ///
 /// "Reader: 16; fewer than 16 bytes is 9; 3 to 8; 9; then fields from left to right, .. 15 last."
-pub fn read(kind: Option<Kind>, frame: &[u8], rows: &mut [u32]) -> Result<Reading, Refusal> {
+pub fn read(kind: Kind, frame: &[u8], rows: &mut [u32]) -> Result<Reading, Refusal> {
     if rows.len() < ROW_NUMBERS {
         return Err(16);
     }
@@ -33,7 +33,9 @@ pub fn read(kind: Option<Kind>, frame: &[u8], rows: &mut [u32]) -> Result<Readin
         return Err(error);
     }
     let fixed = first(frame);
-    let kind = kind.filter(|kind| frame.len() == fixed.total && is_of(&fixed, *kind)).ok_or(9u32)?;
+    if frame.len() != fixed.total || !is_of(&fixed, kind) {
+        return Err(9);
+    }
     // "A reader's refusals 10 to 15 leave the first 256 row numbers 0", and a record has "zeros after them up to 256 numbers".
     rows[..ROW_NUMBERS].fill(0);
     let reading = read_parts(kind, &fixed, frame)?;

@@ -10,7 +10,7 @@ use crate::generate::frame;
 /// The error code and the record of a frame.
 fn record(kind: Kind, frame: &[u8]) -> (u32, [u32; 24]) {
     let mut record = [9; 24];
-    let error = read(kind as u32, frame, &mut [9; 256], &mut record);
+    let error = read(kind, frame, &mut [9; 256], &mut record);
     (error, record)
 }
 
@@ -74,7 +74,7 @@ fn listing() {
 fn due_times() {
     let mut queue = Queue::default();
     for (request, timeout) in [(1, 0), (2, 4_000_000_000), (3, 600_000)] {
-        queue.add(Job { connection: 1, request, timeout, arrival: 0 }).unwrap();
+        queue.add(Job { connection: 1, request, timeout, zero: 0, arrival: 0 }).unwrap();
     }
     let taken: Vec<u32> = std::iter::from_fn(|| queue.take().ok()).map(|job| job.timeout).collect();
     assert_eq!(taken, [600_000, 4_000_000_000, 0]);
@@ -139,7 +139,7 @@ fn hex(frame: &[u8], start: u32, length: u32) -> String {
 fn printed(kind: Kind, frame: &[u8], lent: usize) -> String {
     let before: Vec<u32> = (0..lent as u32).map(|place| 1 << 31 | place).collect();
     let (mut rows, mut n) = (before.clone(), [9; 24]);
-    let error = read(kind as u32, frame, &mut rows, &mut n);
+    let error = read(kind, frame, &mut rows, &mut n);
     let mut lines = Vec::new();
     for (name, part) in [("header", 2), ("body", 4), ("attachment", 6)] {
         lines.push(format!("{name} {} {}", n[part + 1], hex(frame, n[part], n[part + 1])));
@@ -186,7 +186,7 @@ fn cases() -> Vec<(String, Kind, usize, Vec<u8>)> {
         let label = String::from_utf8(take(&mut rest, sizes[0].into()).to_vec()).unwrap();
         let frame = take(&mut rest, u32::from_be_bytes(sizes[4..8].try_into().unwrap()) as usize);
         let lent = usize::from(u16::from_be_bytes([sizes[2], sizes[3]]));
-        cases.push((label, Kind::of(sizes[1].into()).unwrap(), lent, frame.to_vec()));
+        cases.push((label, Kind::ALL[usize::from(sizes[1])], lent, frame.to_vec()));
     }
     cases
 }
@@ -223,12 +223,12 @@ fn frames_of_protoc_written_again() {
     let (mut whole, mut equal) = (0, 0);
     for (label, kind, _, frame) in cases() {
         let (mut rows, mut n) = ([9; 256], [9; 24]);
-        if read(kind as u32, &frame, &mut rows, &mut n) != 0 {
+        if read(kind, &frame, &mut rows, &mut n) != 0 {
             continue;
         }
         let mut out = vec![0; LARGEST];
         let body = &frame[n[4] as usize..][..n[5] as usize];
-        let written = write(kind as u32, &n, &frame, &rows, body, &mut out);
+        let written = write(kind, &n, &frame, &rows, body, &mut out);
         assert_eq!(written.error, 0, "{label}");
         whole += 1;
         equal += usize::from(out[..written.size] == frame);
@@ -236,7 +236,7 @@ fn frames_of_protoc_written_again() {
     assert_eq!((whole, equal), (662, 295));
 }
 
-/// The calls of crates/writes, but for those with a refused record, which the C interface has not.
+/// The calls of crates/writes.
 #[test]
 fn writes_of_protoc() {
     let input = std::fs::read(format!("{WRITES}/stdin")).unwrap();
@@ -250,19 +250,17 @@ fn writes_of_protoc() {
         let rows = take_numbers(&mut rest, head[1] as usize);
         let source = take_repeated(&mut rest, head[5], head[2]);
         let body = take_repeated(&mut rest, head[6], head[3]);
-        let expected = expected.next().unwrap();
-        if Kind::of(head[7]).is_none() {
-            continue;
-        }
-        let record = [&[head[8], head[9], 0, 0, 0, 0, 0, 0], &fields[..]].concat();
+        let mut record = [0; 24];
+        record[..2].copy_from_slice(&head[8..10]);
+        record[8..].copy_from_slice(&fields);
         let mut out = vec![0xA5; head[4] as usize];
-        let written = write(head[7], &record, &source, &rows, &body, &mut out);
-        let told = match written.error {
+        let written = write(Kind::ALL[head[7] as usize], &record, &source, &rows, &body, &mut out);
+        let answer = match written.error {
             0 => format!("frame {} {}", written.size, hex(&out, 0, written.size as u32)),
             error => format!("refused {error}"),
         };
         let kept = out[written.size..].iter().filter(|byte| **byte == 0xA5).count();
-        assert_eq!(format!("{label}\n{told}\nkept {kept}\n"), expected, "{label}");
+        assert_eq!(format!("{label}\n{answer}\nkept {kept}\n"), expected.next().unwrap(), "{label}");
     }
     assert_eq!(expected.next(), None);
 }
