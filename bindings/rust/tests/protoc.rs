@@ -1,4 +1,4 @@
-//! The frames of crates/records, whose headers `protoc --encode` wrote or that are damaged: what the bindings read is what the
+//! The frames of crates/test_records, whose headers `protoc --encode` wrote or that are damaged: what the bindings read is what the
 //! file `stdout` there says that protoc was given, and what they write of it reads the same.
 
 use std::fmt::Write;

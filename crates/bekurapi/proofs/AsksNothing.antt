@@ -1,7 +1,7 @@
 -- Demand 1: no public entry of this crate asks anything of its caller. `tests/entries` compares the list with the sources.
 -- Assumes nothing.
 use mathlib.Core.Path.{refl}
-use Rattle.asking.specs.Asking.{AsksNothing}
+use Rattle.laws.specs.Asking.{AsksNothing}
 use Rattle.bekurapi.proofs as entry
 
 pub trpc-header-check : AsksNothing entry.trpc_header_check.signature (λ M. entry.trpc_header_check.spec)

@@ -11,10 +11,10 @@ use lib.Dec.{eqb, ltb, leb}
 use lib.IntN.{ℤ, pos, negsuc}
 use lib.Signed.{mag}
 use lib.ListN.{length, take, getD}
-use Rattle.wire.specs.Varint.{twosComplement, lowI32}
-use Rattle.field_writer.specs.Writing.{signExtended}
-use Rattle.field_writer.proofs.ReadBack.{signed-back}
-use Rattle.frame.specs.Header.{headerError, totalOf, idOf}
+use Rattle.wire_read.specs.Varint.{twosComplement, lowI32}
+use Rattle.wire_write.specs.Writing.{signExtended}
+use Rattle.wire_write.proofs.ReadBack.{signed-back}
+use Rattle.deframer.specs.Header.{headerError, totalOf, idOf}
 use Rattle.decoder.specs.Rows.{rowNumbers, laidOut}
 use Rattle.decoder.specs.Fields.{Result, ok, refused, readMessage}
 use Rattle.message.specs.Records.{schemaOf, recordOf, attachmentSizeOf}

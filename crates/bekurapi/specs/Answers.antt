@@ -3,18 +3,18 @@
 use Prim.Native.Nat.{ℕ}
 use mathlib.Core.Path.{_≡_}
 use mathlib.Core.List.{List}
-use Rattle.frame.specs.Header.{parsed}
-use Rattle.frame.specs.Deframe.{Out, deframed}
-use Rattle.frame.specs.declared.FrameType.{FrameType}
-use Rattle.frame.specs.declared.FrameType.the-variants as types
-use Rattle.frame.specs.declared.FixedHeader.{FixedHeader}
-use Rattle.frame.specs.declared.Parsed.{Parsed}
-use Rattle.frame.specs.declared.Parsed.the-variants as headers
-use Rattle.frame.specs.declared.Deframer.{Deframer}
-use Rattle.frame.specs.declared.Progress.{Progress}
-use Rattle.frame.specs.declared.Progress.the-variants.{Frame, NeedMore, Refused}
-use Rattle.frame.specs.declared.End.{End}
-use Rattle.frame.specs.declared.End.the-variants as end
+use Rattle.deframer.specs.Header.{parsed}
+use Rattle.deframer.specs.Deframe.{Out, deframed}
+use Rattle.deframer.specs.declared.FrameType.{FrameType}
+use Rattle.deframer.specs.declared.FrameType.the-variants as types
+use Rattle.deframer.specs.declared.FixedHeader.{FixedHeader}
+use Rattle.deframer.specs.declared.Parsed.{Parsed}
+use Rattle.deframer.specs.declared.Parsed.the-variants as headers
+use Rattle.deframer.specs.declared.Deframer.{Deframer}
+use Rattle.deframer.specs.declared.Progress.{Progress}
+use Rattle.deframer.specs.declared.Progress.the-variants.{Frame, NeedMore, Refused}
+use Rattle.deframer.specs.declared.End.{End}
+use Rattle.deframer.specs.declared.End.the-variants as end
 use Rattle.message.specs.declared.Answer.{Answer}
 use Rattle.message.specs.declared.Answer.the-variants as answers
 

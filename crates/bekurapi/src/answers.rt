@@ -1,9 +1,9 @@
 // Each answer that is an enum as numbers: the error code, 0 for none, and the value beside it.
-use frame::End;
-use frame::FixedHeader;
-use frame::FrameType;
-use frame::Parsed;
-use frame::Progress;
+use deframer::End;
+use deframer::FixedHeader;
+use deframer::FrameType;
+use deframer::Parsed;
+use deframer::Progress;
 use message::Answer;
 use writer::Encoded;
 ghost use mathlib.Core.Path.{_≡_};

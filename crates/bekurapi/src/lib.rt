@@ -12,16 +12,16 @@ use answers::parsed_error;
 use answers::progress_error;
 use answers::progress_size;
 use answers::type_number;
-use frame::Deframer;
-use frame::deframe;
-use frame::finish;
-use frame::parse_header;
+use deframer::Deframer;
+use deframer::deframe;
+use deframer::finish;
+use deframer::parse_header;
 use kinds::read_as;
 use kinds::write_as;
 use message::Kind;
 ghost use mathlib.Core.Path.{_≡_};
-ghost use Rattle.frame.specs.Header.{headerError};
-ghost use Rattle.frame.specs.Deframe.{ended};
+ghost use Rattle.deframer.specs.Header.{headerError};
+ghost use Rattle.deframer.specs.Deframe.{ended};
 ghost use Rattle.message.specs.declared.Kind.the-variants as kinds;
 ghost use Rattle.bekurapi.specs.Answers.{ParsedAs, stateOf, DeframedAs, endError, endShort};
 ghost use Rattle.bekurapi.specs.Kinds.{ReadAs, WrittenAs};
@@ -31,7 +31,7 @@ ghost use Rattle.bekurapi.specs.Kinds.{ReadAs, WrittenAs};
 pub extern "C" fn trpc_header_check(bytes: &[u8]) -> u32
     ensures { λ r. ⌜ r ≡ headerError (now (bytes .entry)) ⌝ }
 {
-    frame::trpc_header_check(bytes)
+    deframer::trpc_header_check(bytes)
 }
 
 // What a fixed header says. Answers its error code; where it is 0, `frame_type` is the stream type, or 0 for unary. All are 0

@@ -7,13 +7,13 @@ use lib.ListN.{length, take, replicate}
 use lib.Dec.{eqb}
 use native.Mathlib.Omega.{arith}
 use borrow.Author.Tests.{eqb-true}
-use Rattle.frame.specs.Header.{maxFrame}
-use Rattle.wire.specs.Part.{part}
-use Rattle.wire.specs.declared.Field.{Field}
-use Rattle.wire.specs.declared.Field.the-variants as fields
-use Rattle.field_reader.specs.Reader.{stepAt}
-use Rattle.field_reader.specs.declared.Step.{Step}
-use Rattle.wire.proofs.PartLaws.{part-length}
+use Rattle.deframer.specs.Header.{maxFrame}
+use Rattle.wire_read.specs.Part.{part}
+use Rattle.wire_read.specs.declared.Field.{Field}
+use Rattle.wire_read.specs.declared.Field.the-variants as fields
+use Rattle.wire_walk.specs.Reader.{stepAt}
+use Rattle.wire_walk.specs.declared.Step.{Step}
+use Rattle.wire_read.proofs.PartLaws.{part-length}
 use Rattle.decoder.specs.Schema.{entry}
 use Rattle.decoder.specs.Fields.{State, Result, ok, blank, startOf, Reader, someBytes, unknown, look, setSlot, setBytes, setNumber, withField, fieldsIn}
 use Rattle.decoder.specs.DecoderState.{withSpan}

@@ -4,12 +4,12 @@ use mathlib.Core.Path.{_≡_, refl, sym, subst, _∙_}
 use mathlib.Core.List.{List}
 use lib.ListN.{length, take, drop}
 use native.Mathlib.Omega.{arith}
-use Rattle.frame.specs.Header.{maxFrame}
-use Rattle.wire.specs.Part.{part}
-use Rattle.wire.specs.declared.Field.{Field}
-use Rattle.wire.specs.declared.Field.the-variants as fields
-use Rattle.field_reader.specs.Reader.{stepAt}
-use Rattle.field_reader.specs.declared.Step.{Step}
+use Rattle.deframer.specs.Header.{maxFrame}
+use Rattle.wire_read.specs.Part.{part}
+use Rattle.wire_read.specs.declared.Field.{Field}
+use Rattle.wire_read.specs.declared.Field.the-variants as fields
+use Rattle.wire_walk.specs.Reader.{stepAt}
+use Rattle.wire_walk.specs.declared.Step.{Step}
 use Rattle.decoder.specs.Schema.{partSchema, slotAt}
 use Rattle.decoder.specs.Fields.{State, Result, ok, refused, look, setNumber}
 use Rattle.decoder.specs.DecoderState.{stateOf, Holds, Ready, Tells, withFieldAt, readAt, withNumber}

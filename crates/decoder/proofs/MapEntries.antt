@@ -6,7 +6,7 @@ use lib.ListN.{length}
 use native.Mathlib.Omega.{arith}
 use native.Mathlib.Numerals.{add-one}
 use borrow.Author.Tests.{lt-ltb, le-ltb}
-use Rattle.wire.specs.Part.{part}
+use Rattle.wire_read.specs.Part.{part}
 use Rattle.decoder.specs.Schema.{entry}
 use Rattle.decoder.specs.Rows.{Row, laidOut, rowsIn}
 use Rattle.decoder.specs.Fields.{State, Result, ok, refused, blank, anEntry, rowOf, enter, addEntry, withField, fieldsIn}

@@ -8,8 +8,8 @@ use lib.ListN.{length, take, drop, length-take, length-drop}
 use lib.Dec.{ltb}
 use native.Mathlib.Omega.{arith}
 use borrow.Author.Tests.{ltb-true}
-use Rattle.wire.specs.Fields.{FieldResult, noField, varintField, fixed64Field, bytesField, groupField, fixed32Field, fieldError, nextField}
-use Rattle.wire.proofs.Bounds.{FieldIn, nextField-in}
+use Rattle.wire_read.specs.Fields.{FieldResult, noField, varintField, fixed64Field, bytesField, groupField, fixed32Field, fieldError, nextField}
+use Rattle.wire_read.proofs.Bounds.{FieldIn, nextField-in}
 use Rattle.decoder.specs.Schema.{Schema, entry}
 use Rattle.decoder.specs.Fields.{State, Result, ok, refused, blank, Reader, Target, aNumber, someBytes, anEntry, aMessage, unknown, look, setSlot, setBytes, setNumber, addEntry, withField, andThen, inside, oneField, fieldsIn, readMessage}
 

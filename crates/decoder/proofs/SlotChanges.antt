@@ -10,8 +10,8 @@ use lib.Dec.{eqb}
 use native.Mathlib.Omega.{arith}
 use Rattle.decoder.specs.Schema.{Schema, done, number, bytes, map, message, width}
 use Rattle.decoder.specs.Fields.{State, Target, aNumber, someBytes, anEntry, aMessage, unknown, look, setSlot, setBytes, setNumber, addEntry}
-use Rattle.wire.specs.Varint.{lowU32}
-use Rattle.wire.proofs.Bounds.{either}
+use Rattle.wire_read.specs.Varint.{lowU32}
+use Rattle.wire_read.proofs.Bounds.{either}
 use Rattle.decoder.proofs.ReadingSteps.{Steps, ends, takes-number, takes-bytes, takes-entry, takes-message}
 
 -- ---- lists that agree but for some places

@@ -4,8 +4,8 @@ use mathlib.Core.Path.{_≡_, refl, sym, ap, subst, _∙_}
 use mathlib.Core.List.{List}
 use lib.ListN.{length, set, length-set}
 use native.Mathlib.Omega.{arith}
-use Rattle.wire.specs.Part.{part}
-use Rattle.wire.proofs.PartLaws.{part-length}
+use Rattle.wire_read.specs.Part.{part}
+use Rattle.wire_read.proofs.PartLaws.{part-length}
 use Rattle.decoder.specs.Schema.{partSchema, slotAt}
 use Rattle.decoder.specs.Fields.{State, Result, ok, Target, aNumber, someBytes, anEntry, aMessage, unknown, setSlot, setBytes, setNumber, withField, fieldsIn}
 use Rattle.decoder.specs.DecoderState.{stateOf, Holds, Ready, Tells, withFieldAt, readAt, withNumber, withBytes}

@@ -8,7 +8,7 @@ use Rattle.decoder.specs.Schema.{Schema, done, schemaAt, partSchema}
 use Rattle.decoder.specs.Fields.{Target, aNumber, someBytes, anEntry, aMessage, unknown}
 use Rattle.decoder.specs.DecoderState.{targetOf, Fit, withNumber}
 use lib.ListN.{set}
-use Rattle.wire.specs.Varint.{lowU32}
+use Rattle.wire_read.specs.Varint.{lowU32}
 use Rattle.decoder.specs.declared.Slots.{Slots}
 use Rattle.decoder.specs.declared.fields.Target.{Target as Place}
 

@@ -4,8 +4,8 @@ use mathlib.Core.Path.{_≡_, refl, sym, ap, subst, _∙_}
 use mathlib.Core.List.{List, []}
 use lib.ListN.{length, drop, replicate}
 use native.Mathlib.Omega.{arith}
-use Rattle.wire.specs.Part.{part}
-use Rattle.wire.proofs.PartLaws.{part-length}
+use Rattle.wire_read.specs.Part.{part}
+use Rattle.wire_read.proofs.PartLaws.{part-length}
 use Rattle.decoder.specs.Schema.{schemaAt, partSchema, slotAt}
 use Rattle.decoder.specs.Rows.{rowNumbers, laidOut, rowsIn}
 use Rattle.decoder.specs.Fields.{State, Result, ok, refused, blank, readMessage}

@@ -6,8 +6,8 @@ use mathlib.Core.Bool.{cond}
 use mathlib.Core.List.{List, [], _∷_}
 use lib.ListN.{length, drop, getD, set}
 use lib.Dec.{eqb}
-use Rattle.wire.specs.Part.{part}
-use Rattle.wire.specs.Varint.{lowU32}
+use Rattle.wire_read.specs.Part.{part}
+use Rattle.wire_read.specs.Varint.{lowU32}
 use Rattle.decoder.specs.Schema.{partSchema, slotAt}
 use Rattle.decoder.specs.Rows.{Row, rowNumbers, laidOut, rowsIn}
 use Rattle.decoder.specs.Fields.{State, Result, ok, refused, Target, aNumber, someBytes, anEntry, aMessage, unknown, startOf, partOf, sameBytes, withField, fieldsIn}

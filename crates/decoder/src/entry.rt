@@ -1,12 +1,12 @@
 // A map entry: "a message of key 1 and value 2".
 use crate::fields::start_of;
 use crate::walking::step_in;
-use wire::Field;
+use wire_read::Field;
 ghost use mathlib.Core.Path.{_≡_};
 ghost use Prim.Native.Nat.{_+_, _-_, _≤_};
 ghost use lib.ListN.{length};
-ghost use Rattle.frame.specs.Header.{maxFrame};
-ghost use Rattle.wire.specs.Part.{part};
+ghost use Rattle.deframer.specs.Header.{maxFrame};
+ghost use Rattle.wire_read.specs.Part.{part};
 ghost use Rattle.decoder.specs.Schema.{entry};
 ghost use Rattle.decoder.specs.Fields.{fieldsIn, blank};
 ghost use Rattle.decoder.specs.DecoderState.{entryOf, EntryIn, withSpan};

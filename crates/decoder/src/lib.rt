@@ -6,7 +6,7 @@ mod messages;
 mod rows;
 mod walking;
 
-use frame::MAX_FRAME;
+use deframer::MAX_FRAME;
 use messages::decode_part;
 use messages::refused;
 use rows::clear;

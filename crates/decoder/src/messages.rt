@@ -10,12 +10,12 @@ use crate::fields::start_of;
 use crate::rows::clear;
 use crate::rows::enter_row;
 use crate::walking::step_in;
-use wire::Field;
+use wire_read::Field;
 ghost use mathlib.Core.Path.{_≡_};
 ghost use Prim.Native.Nat.{_+_, _≤_, _<_};
 ghost use lib.ListN.{length};
-ghost use Rattle.frame.specs.Header.{maxFrame};
-ghost use Rattle.wire.specs.Part.{part};
+ghost use Rattle.deframer.specs.Header.{maxFrame};
+ghost use Rattle.wire_read.specs.Part.{part};
 ghost use Rattle.decoder.specs.Schema.{schemaAt, partSchema, slotAt};
 ghost use Rattle.decoder.specs.Rows.{rowNumbers};
 ghost use Rattle.decoder.specs.Fields.{look, anEntry, readMessage};
@@ -51,7 +51,7 @@ fn set_number(slots: Slots, schema: u32, number: u32, value: u64) -> Slots
     match t {
         Target::Number(slot) => {
             let mut next = slots;
-            next.values[slot] = wire::low_u32(value);
+            next.values[slot] = wire_read::low_u32(value);
             next
         }
         Target::Bytes(_) => slots,

@@ -5,12 +5,12 @@ use mathlib.Core.List.{List, _++_}
 use native.Mathlib.Omega.{arith}
 use lib.ListN.{length, take, length-append, length-take}
 use lib.Seq.{take-at, length-take-le}
-use Rattle.frame.specs.Deframe.{ended}
-use Rattle.frame.specs.declared.Deframer.{Deframer}
-use Rattle.frame.specs.declared.FixedHeader.{FixedHeader}
-use Rattle.frame.specs.declared.Parsed.{Parsed}
-use Rattle.frame.specs.declared.Parsed.the-variants.{Good, Refused}
-use Rattle.frame.specs.declared.Progress.{Progress}
+use Rattle.deframer.specs.Deframe.{ended}
+use Rattle.deframer.specs.declared.Deframer.{Deframer}
+use Rattle.deframer.specs.declared.FixedHeader.{FixedHeader}
+use Rattle.deframer.specs.declared.Parsed.{Parsed}
+use Rattle.deframer.specs.declared.Parsed.the-variants.{Good, Refused}
+use Rattle.deframer.specs.declared.Progress.{Progress}
 use Rattle.listing.specs.Lines.{frameLine, endLine, withText, Adds}
 use Rattle.listing.specs.Steps.{nextNumber, kept, Lists, ListsFrame, ListsStep}
 use Rattle.listing.specs.declared.Listing.{Listing}

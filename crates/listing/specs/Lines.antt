@@ -8,11 +8,11 @@ use mathlib.Core.List.{List, [], _∷_, _++_}
 use lib.Dec.{ltb}
 use lib.ListN.{length, take, drop}
 use Rattle.io.specs.Digits.{digits}
-use Rattle.frame.specs.declared.FrameType.{FrameType}
-use Rattle.frame.specs.declared.FrameType.the-variants as types
-use Rattle.frame.specs.declared.FixedHeader.{FixedHeader}
-use Rattle.frame.specs.declared.End.{End}
-use Rattle.frame.specs.declared.End.the-variants as end
+use Rattle.deframer.specs.declared.FrameType.{FrameType}
+use Rattle.deframer.specs.declared.FrameType.the-variants as types
+use Rattle.deframer.specs.declared.FixedHeader.{FixedHeader}
+use Rattle.deframer.specs.declared.End.{End}
+use Rattle.deframer.specs.declared.End.the-variants as end
 
 -- a text as bytes; all that is printed is ASCII
 abbrev pub ascii : String → List ℕ

@@ -6,14 +6,14 @@ use mathlib.Core.Bool.{true, false, cond}
 use mathlib.Core.List.{List, _++_}
 use lib.Dec.{leb}
 use lib.ListN.{length, take, drop}
-use Rattle.frame.specs.Header.{parsed}
-use Rattle.frame.specs.Deframe.{fresh, deframed, ended}
-use Rattle.frame.specs.declared.Deframer.{Deframer}
-use Rattle.frame.specs.declared.Parsed.{Parsed}
-use Rattle.frame.specs.declared.Parsed.the-variants as header
-use Rattle.frame.specs.declared.Step.{Step}
-use Rattle.frame.specs.declared.Progress.{Progress}
-use Rattle.frame.specs.declared.Progress.the-variants as progress
+use Rattle.deframer.specs.Header.{parsed}
+use Rattle.deframer.specs.Deframe.{fresh, deframed, ended}
+use Rattle.deframer.specs.declared.Deframer.{Deframer}
+use Rattle.deframer.specs.declared.Parsed.{Parsed}
+use Rattle.deframer.specs.declared.Parsed.the-variants as header
+use Rattle.deframer.specs.declared.Step.{Step}
+use Rattle.deframer.specs.declared.Progress.{Progress}
+use Rattle.deframer.specs.declared.Progress.the-variants as progress
 use Rattle.listing.specs.Lines.{frameLine, endLine, maxLine, withText}
 use Rattle.listing.specs.declared.Listing.{Listing}
 

@@ -5,20 +5,20 @@
 // deframer fills, and the text to print. An error of a read or a write ends it with a message on standard error.
 mod text;
 
-use frame::Deframer;
-use frame::FixedHeader;
-use frame::Parsed;
-use frame::Progress;
-use frame::Step;
+use deframer::Deframer;
+use deframer::FixedHeader;
+use deframer::Parsed;
+use deframer::Progress;
+use deframer::Step;
 use libc::STDIN_FILENO;
 use libc::STDOUT_FILENO;
 ghost use mathlib.Core.Path.{_≡_};
 ghost use mathlib.Core.Bool.{true, false};
 ghost use Prim.Native.Nat.{_+_, _≤_, _<_};
 ghost use lib.ListN.{length, take, drop};
-ghost use Rattle.frame.specs.Header.{parsed, maxFrame};
-ghost use Rattle.frame.specs.Deframe.{deframed, ended};
-ghost use Rattle.frame.specs.Calls.{isRefused};
+ghost use Rattle.deframer.specs.Header.{parsed, maxFrame};
+ghost use Rattle.deframer.specs.Deframe.{deframed, ended};
+ghost use Rattle.deframer.specs.Calls.{isRefused};
 ghost use Rattle.listing.specs.Lines.{frameLine, endLine, maxLine, Adds};
 ghost use Rattle.listing.specs.Steps.{Text, start, withDeframer, nextNumber, kept, ListsFrame, ListsEnd, ListsStep, ListsPiece};
 
@@ -111,7 +111,7 @@ fn deframe_rest(deframer: Deframer, buffer: &mut [u8], piece: &[u8], from: usize
     ensures { λ r. ⌜ now (buffer .exit) ≡ deframed deframer (now (buffer .entry)) (drop from (now (piece .entry))) .buffer ⌝ }
     ensures { λ r. ⌜ (from + r .taken ≤ length (now (piece .entry))) × (isRefused (r .progress) ≡ false → 0 < r .taken) ⌝ }
 {
-    frame::deframe(deframer, buffer, &piece[from..])
+    deframer::deframe(deframer, buffer, &piece[from..])
 }
 
 // Lists what a call of the deframer came to.
@@ -141,7 +141,7 @@ fn list_frame(listing: Listing, buffer: &[u8], text: &mut [u8]) -> Listing
     ensures { λ r. ⌜ (r .pending ≤ length (now (text .entry)))
         × ListsFrame (parsed (take 16 (now (buffer .entry)))) listing (now (text .entry)) r (now (text .exit)) ⌝ }
 {
-    let Parsed::Good(header) = frame::parse_header(&buffer[..frame::HEADER]) else {
+    let Parsed::Good(header) = deframer::parse_header(&buffer[..deframer::HEADER]) else {
         return listing;
     };
     add_frame(with_room(listing, text), header, text)
@@ -176,7 +176,7 @@ fn add_end(listing: Listing, buffer: &[u8], text: &mut [u8]) -> Listing
         (now (text .exit)) (r .pending) ⌝ }
 {
     let mut listed = listing;
-    let end = frame::finish(listed.deframer, buffer);
+    let end = deframer::finish(listed.deframer, buffer);
     listed.pending = text::end_line(text, listed.pending, end);
     listed
 }

@@ -1,8 +1,8 @@
 // The lines of the listing, as text in the caller's buffer. Each function puts its text after the `at` bytes there, and
 // returns how many there are then.
-use frame::End;
-use frame::FixedHeader;
-use frame::FrameType;
+use deframer::End;
+use deframer::FixedHeader;
+use deframer::FrameType;
 ghost use mathlib.Core.Path.{_≡_};
 ghost use Prim.Native.Nat.{_+_, _≤_};
 ghost use lib.ListN.{length};

@@ -8,10 +8,10 @@ use borrow.Author.Tests.{eqb-true, eqb-false, leb-true}
 use lib.Dec.{eqb, leb}
 use lib.ListN.{length, take, getD}
 use lib.Seq.{getD-take}
-use Rattle.frame.specs.Header.{maxFrame, be16Of, be32Of, totalOf, headerSizeOf, idOf, magicOk, dataTypeOk, streamTypeOk, totalOk, headerSizeOk, faultOf, headerError, typeOf, parsed}
-use Rattle.frame.specs.declared.FixedHeader.{FixedHeader}
-use Rattle.frame.specs.declared.Parsed.the-variants.{Good, Refused}
-use Rattle.frame.proofs.Codes.{kept, good-total}
+use Rattle.deframer.specs.Header.{maxFrame, be16Of, be32Of, totalOf, headerSizeOf, idOf, magicOk, dataTypeOk, streamTypeOk, totalOk, headerSizeOk, faultOf, headerError, typeOf, parsed}
+use Rattle.deframer.specs.declared.FixedHeader.{FixedHeader}
+use Rattle.deframer.specs.declared.Parsed.the-variants.{Good, Refused}
+use Rattle.deframer.proofs.Codes.{kept, good-total}
 
 -- ---- the numbers of the first 16 bytes are the frame's
 be16-take : (f : List ℕ) (at : ℕ) → at + 1 < 16 → be16Of (take 16 f) at ≡ be16Of f at

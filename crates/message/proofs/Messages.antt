@@ -6,8 +6,8 @@ use native.Mathlib.Omega.{arith}
 use borrow.Author.Tests.{le-leb, lt-leb}
 use lib.ListN.{length, drop, replicate, length-drop}
 use lib.Seq.{length-take-le}
-use Rattle.frame.specs.Header.{headerSizeOf, idOf}
-use Rattle.wire.specs.Part.{part}
+use Rattle.deframer.specs.Header.{headerSizeOf, idOf}
+use Rattle.wire_read.specs.Part.{part}
 use Rattle.decoder.specs.Schema.{schemaAt}
 use Rattle.decoder.specs.Rows.{Row, rowNumbers, laidOut, rowsCleared}
 use Rattle.decoder.specs.Fields.{State, Result, ok, refused, readMessage}

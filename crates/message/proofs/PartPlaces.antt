@@ -5,8 +5,8 @@ use mathlib.Core.List.{List}
 use native.Mathlib.Omega.{arith}
 use lib.ListN.{length, drop, length-drop}
 use lib.Seq.{drop-length}
-use Rattle.frame.specs.Header.{maxFrame, headerSizeOf}
-use Rattle.wire.specs.Part.{part}
+use Rattle.deframer.specs.Header.{maxFrame, headerSizeOf}
+use Rattle.wire_read.specs.Part.{part}
 use Rattle.decoder.proofs.PartEnds.{part-rest}
 use Rattle.message.specs.Frames.{headerOf, bodyOf, lastBytes}
 use Rattle.message.specs.Parts.{bodyAt, Whole}

@@ -5,7 +5,7 @@ use mathlib.Core.Bool.{true, false}
 use mathlib.Core.List.{List}
 use borrow.Author.Tests.{lt-ltb, le-ltb, eq-eqb, ne-eqb}
 use lib.ListN.{length, take, getD}
-use Rattle.frame.specs.Header.{headerError, totalOf}
+use Rattle.deframer.specs.Header.{headerError, totalOf}
 use Rattle.decoder.specs.Fields.{readMessage}
 use Rattle.decoder.specs.Rows.{rowNumbers}
 use Rattle.message.specs.Records.{schemaOf}

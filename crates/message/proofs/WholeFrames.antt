@@ -4,9 +4,9 @@ use mathlib.Core.Path.{_≡_, sym, ap, _∙_}
 use mathlib.Core.Bool.{true, false}
 use mathlib.Core.List.{List}
 use lib.ListN.{length, take, getD}
-use Rattle.frame.specs.Header.{parsed}
-use Rattle.frame.specs.declared.FixedHeader.{FixedHeader}
-use Rattle.frame.specs.declared.Parsed.the-variants.{Good, Refused}
+use Rattle.deframer.specs.Header.{parsed}
+use Rattle.deframer.specs.declared.FixedHeader.{FixedHeader}
+use Rattle.deframer.specs.declared.Parsed.the-variants.{Good, Refused}
 use Rattle.message.specs.Frames.{kindFits, refusedUntouched, readFrame}
 use Rattle.decoder.specs.Rows.{rowNumbers}
 use Rattle.message.specs.Parts.{PartsOf, noParts, Whole}

@@ -4,7 +4,7 @@ use mathlib.Core.Bool.{Bool, cond, _&&_}
 use mathlib.Core.List.{List, []}
 use lib.ListN.{length, take, drop, getD}
 use lib.Dec.{ltb, leb, eqb}
-use Rattle.frame.specs.Header.{headerError, totalOf, headerSizeOf, idOf}
+use Rattle.deframer.specs.Header.{headerError, totalOf, headerSizeOf, idOf}
 use Rattle.decoder.specs.Fields.{State, Result, ok, refused, readMessage}
 use Rattle.decoder.specs.Rows.{rowNumbers, laidOut}
 use Rattle.message.specs.Records.{schemaOf, recordOf, attachmentSizeOf}

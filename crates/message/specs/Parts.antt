@@ -4,7 +4,7 @@ use mathlib.Core.Path.{_≡_}
 use mathlib.Core.Bool.{true}
 use mathlib.Core.List.{List}
 use lib.ListN.{length, take, getD}
-use Rattle.frame.specs.Header.{maxFrame, headerError, totalOf, headerSizeOf, idOf}
+use Rattle.deframer.specs.Header.{maxFrame, headerError, totalOf, headerSizeOf, idOf}
 use Rattle.message.specs.Frames.{Reading, kindFits}
 use Rattle.message.specs.Spans.{spanFrom, spansOf}
 use Rattle.message.specs.declared.Kind.{Kind}

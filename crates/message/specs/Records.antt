@@ -4,7 +4,7 @@ use mathlib.Core.Bool.{not}
 use mathlib.Core.List.{List}
 use lib.ListN.{getD}
 use lib.Dec.{eqb}
-use Rattle.wire.specs.Varint.{lowI32}
+use Rattle.wire_read.specs.Varint.{lowI32}
 use Rattle.decoder.specs.Schema.{Schema, done, request, response, init, feedback, close}
 use Rattle.message.specs.declared.Kind.{Kind}
 use Rattle.message.specs.declared.Kind.the-variants as kinds

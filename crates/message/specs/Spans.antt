@@ -2,7 +2,7 @@
 use Prim.Native.Nat.{ℕ, _+_, _-_}
 use mathlib.Core.List.{List}
 use lib.ListN.{length}
-use Rattle.wire.specs.Part.{part}
+use Rattle.wire_read.specs.Part.{part}
 use Rattle.decoder.specs.Fields.{startOf}
 use Rattle.message.specs.Frames.{Reading}
 use Rattle.message.specs.declared.Span.{Span}

@@ -11,7 +11,7 @@ use crate::Response;
 use crate::ResponseMeta;
 use crate::Span;
 ghost use mathlib.Core.Path.{_≡_};
-ghost use Rattle.wire.specs.Varint.{lowI32};
+ghost use Rattle.wire_read.specs.Varint.{lowI32};
 ghost use Rattle.message.specs.Records.{requestMetaOf, responseMetaOf, recordOf, attachmentSizeOf};
 
 // The record of a message whose slots have these values, with that many rows.
@@ -50,7 +50,7 @@ pub(crate) fn attachment_size(kind: Kind, v: [u32; 16]) -> u32
 fn signed(v: u32) -> i32
     ensures { λ r. ⌜ r ≡ lowI32 v ⌝ }
 {
-    wire::low_i32(v as u64)
+    wire_read::low_i32(v as u64)
 }
 
 fn request_of(id: u32, v: [u32; 16], rows: u32) -> Record

@@ -1,7 +1,7 @@
 -- Demand 1: no public entry of this crate asks anything of its caller. `tests/entries` compares the list with the sources.
 -- Assumes nothing.
 use mathlib.Core.Path.{refl}
-use Rattle.asking.specs.Asking.{AsksNothing}
+use Rattle.laws.specs.Asking.{AsksNothing}
 use Rattle.outgoing.proofs as entry
 
 pub content-of : AsksNothing entry.content_of.signature (λ M. entry.content_of.spec)

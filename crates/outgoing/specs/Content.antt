@@ -4,8 +4,8 @@ use mathlib.Core.Bool.{Bool, cond}
 use mathlib.Core.List.{List, [], _∷_}
 use lib.ListN.{replicate}
 use lib.IntN.{ℤ}
-use Rattle.wire.specs.Varint.{lowU32}
-use Rattle.field_writer.specs.Writing.{signExtended}
+use Rattle.wire_read.specs.Varint.{lowU32}
+use Rattle.wire_write.specs.Writing.{signExtended}
 use Rattle.decoder.specs.Fields.{slotCount}
 use Rattle.message.specs.declared.Kind.{Kind}
 use Rattle.message.specs.declared.Kind.the-variants as kinds

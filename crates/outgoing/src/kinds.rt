@@ -13,7 +13,7 @@ ghost use Rattle.outgoing.specs.Content.{bits, mark, kindOf, slotsOf};
 fn bits_of(v: i32) -> u32
     ensures { λ r. ⌜ r ≡ bits v ⌝ }
 {
-    wire::low_u32(field_writer::sign_extend(v))
+    wire_read::low_u32(wire_write::sign_extend(v))
 }
 
 fn mark_of(present: bool) -> u32

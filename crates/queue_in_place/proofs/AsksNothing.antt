@@ -1,7 +1,7 @@
 -- Demand 1: no public entry of this crate asks anything of its caller. `tests/entries` compares the list with the sources.
 -- Assumes nothing.
 use mathlib.Core.Path.{refl}
-use Rattle.asking.specs.Asking.{AsksNothing}
+use Rattle.laws.specs.Asking.{AsksNothing}
 use Rattle.queue_in_place.proofs as entry
 
 pub trpc-queue-init : AsksNothing entry.trpc_queue_init.signature (λ M. entry.trpc_queue_init.spec)

@@ -1,5 +1,5 @@
 -- For a user: what `read_spans` and `read` hand out lies within the frame, by their contracts alone.
--- Promised, of any call that gave what its contract ensures (for `read` that is `Reads` of `stream_trace`): every start and length that it
+-- Promised, of any call that gave what its contract ensures (for `read` that is `Reads` of `thm_stream`): every start and length that it
 -- gave lies within the frame that it was given.
 -- Not promised: anything of a frame that the caller changes after the call.
 -- Ruled out: a contract that leaves open where a byte field lies, or the row numbers.
@@ -23,8 +23,8 @@ use Rattle.message.specs.Spans.{spansOf}
 use Rattle.message.specs.declared.Kind.{Kind}
 use Rattle.message.specs.declared.Located.{Located}
 use Rattle.message.proofs.«read_spans» as «read_spans»
-use Rattle.stream_trace.specs.Trace.{Reads}
-use Rattle.stream_trace.proofs.Traced.{all-read}
+use Rattle.thm_stream.specs.Trace.{Reads}
+use Rattle.thm_stream.proofs.Traced.{all-read}
 use Rattle.read_within.specs.Statement.{ReadWithin}
 use Rattle.read_within.specs.Calls.{Locates}
 use Rattle.read_within.proofs.ReadWithin.{read-within}

@@ -14,7 +14,7 @@ use borrow.Author.Tests.{eqb-true, eqb-false, ltb-false}
 use lib.Dec.{eqb, ltb, leb}
 use lib.ListN.{length, take, drop, getD, length-take, length-drop}
 use lib.Seq.{length-take-le}
-use Rattle.frame.specs.Header.{headerError, totalOf, headerSizeOf, idOf}
+use Rattle.deframer.specs.Header.{headerError, totalOf, headerSizeOf, idOf}
 use Rattle.decoder.specs.Schema.{width}
 use Rattle.decoder.specs.Rows.{rowNumbers, rowsIn, laidOut}
 use Rattle.decoder.specs.Fields.{State, Result, ok, refused, blank, partOf, readMessage}
@@ -27,7 +27,7 @@ use Rattle.message.specs.declared.Kind.the-variants as kinds
 use Rattle.message.specs.declared.Answer.the-variants.{Read}
 use Rattle.message.proofs.SpansStand.{spans-stand}
 use Rattle.outgoing.specs.Content.{rowCount}
-use Rattle.round_trip.specs.Refusals.{recordSpans}
+use Rattle.thm_round_trip.specs.Refusals.{recordSpans}
 use Rattle.read_within.specs.Within.{Lies, RowLies, Each, SpansLie}
 use Rattle.read_within.specs.Statement.{SpanLies, spansIn, countedIn, ReadWithin}
 use Rattle.decoder.proofs.ReadingSteps.{Steps, Came, message-came}

@@ -9,7 +9,7 @@ use lib.Seq.{getD-set-same, getD-set-other}
 use lib.Dec.{eqb}
 use native.Mathlib.Omega.{arith}
 use borrow.Author.Tests.{eqb-true, eqb-false}
-use Rattle.wire.proofs.Bounds.{either}
+use Rattle.wire_read.proofs.Bounds.{either}
 use Rattle.decoder.specs.Schema.{Schema, done, number, bytes, map, message, width, entry}
 use Rattle.decoder.specs.Rows.{Row}
 use Rattle.decoder.specs.Fields.{State, blank, Target, aNumber, someBytes, anEntry, aMessage, unknown, look, setSlot, setBytes, setNumber}

@@ -9,7 +9,7 @@ use Rattle.message.specs.declared.Answer.{Answer}
 use Rattle.message.specs.declared.Answer.the-variants.{Read, Refused}
 use Rattle.message.specs.declared.Located.{Located}
 use Rattle.outgoing.specs.Content.{rowCount}
-use Rattle.round_trip.specs.Refusals.{recordSpans}
+use Rattle.thm_round_trip.specs.Refusals.{recordSpans}
 use Rattle.read_within.specs.Within.{Lies, RowLies, Each}
 
 abbrev pub SpanLies : (frame : List ℕ) → Span → Type 0

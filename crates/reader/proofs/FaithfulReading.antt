@@ -16,13 +16,13 @@ use mathlib.Core.Path.{_≡_, refl, ap, _∙_}
 use mathlib.Core.Bool.{false}
 use mathlib.Core.List.{List, [], _∷_, _++_}
 use lib.ListN.{length, take}
-use Rattle.frame.specs.Header.{maxFrame}
-use Rattle.frame.specs.Deframe.{fresh}
-use Rattle.frame.specs.Stream.{Uncut}
-use Rattle.frame.specs.Calls.{Call, Event, pushed, finished, pushedWrong, finishedWrong, run, Offered, framesOf, frameIn}
-use Rattle.frame.specs.declared.Progress.{Progress}
-use Rattle.frame.specs.declared.Progress.the-variants.{Frame, NeedMore, Refused}
-use Rattle.frame.proofs.Faithful.{faithful}
+use Rattle.deframer.specs.Header.{maxFrame}
+use Rattle.deframer.specs.Deframe.{fresh}
+use Rattle.deframer.specs.Stream.{Uncut}
+use Rattle.deframer.specs.Calls.{Call, Event, pushed, finished, pushedWrong, finishedWrong, run, Offered, framesOf, frameIn}
+use Rattle.deframer.specs.declared.Progress.{Progress}
+use Rattle.deframer.specs.declared.Progress.the-variants.{Frame, NeedMore, Refused}
+use Rattle.deframer.proofs.Faithful.{faithful}
 use Rattle.message.specs.Frames.{Reading, readFrame}
 use Rattle.reader.specs.Stream.{Naming, readEach, readOne, readingsOf, ReadFaithfully}
 

@@ -7,8 +7,8 @@ use native.Mathlib.Omega.{arith}
 use borrow.Author.Tests.{eqb-false}
 use lib.Dec.{eqb}
 use lib.ListN.{length}
-use Rattle.wire.specs.Part.{part}
-use Rattle.wire.proofs.PartLaws.{part-length}
+use Rattle.wire_read.specs.Part.{part}
+use Rattle.wire_read.proofs.PartLaws.{part-length}
 use Rattle.message.specs.Spans.{spanFrom, bytesAt}
 
 pub starts-within : (f l : List ℕ) (start : ℕ) → bytesAt f (spanFrom start (length l)) ≡ l

@@ -5,11 +5,11 @@ use mathlib.Core.Path.{_≡_}
 use mathlib.Core.Logic.{_⊎_}
 use mathlib.Core.List.{List, [], _∷_}
 use lib.ListN.{take}
-use Rattle.frame.specs.Stream.{uncut}
-use Rattle.frame.specs.Calls.{Event, pushed, finished, pushedWrong, finishedWrong, takenOf, RefusedBy, EndedBy, Faithful}
-use Rattle.frame.specs.declared.Progress.{Progress}
-use Rattle.frame.specs.declared.Progress.the-variants.{Frame, NeedMore, Refused}
-use Rattle.frame.specs.declared.End.{End}
+use Rattle.deframer.specs.Stream.{uncut}
+use Rattle.deframer.specs.Calls.{Event, pushed, finished, pushedWrong, finishedWrong, takenOf, RefusedBy, EndedBy, Faithful}
+use Rattle.deframer.specs.declared.Progress.{Progress}
+use Rattle.deframer.specs.declared.Progress.the-variants.{Frame, NeedMore, Refused}
+use Rattle.deframer.specs.declared.End.{End}
 use Rattle.message.specs.Frames.{Reading, readFrame}
 use Rattle.message.specs.declared.Kind.{Kind}
 

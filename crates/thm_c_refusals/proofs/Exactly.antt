@@ -1,10 +1,10 @@
 -- For a user in C: what each exported function but those of the queue returns.
 --
--- Promised, of any call that gave what its contract ensures (`c_calls`, proofs/Contracts): it returns a number exactly when the number's
+-- Promised, of any call that gave what its contract ensures (`thm_c`, proofs/Contracts): it returns a number exactly when the number's
 -- ground holds and none before it in document 01's order does; it returns 0 exactly when none holds; and what is in all that was lent is
 -- said for each case. `c-read` and `c-write` say it of the six readers and of the six writers, by the kind. The queue's functions have the
 -- same theorem in `thm_refusals`.
--- Not promised: what the bytes of a written frame say, which `c-read-back` of `c_calls` does.
+-- Not promised: what the bytes of a written frame say, which `c-read-back` of `thm_c` does.
 -- Ruled out: a function that returns 0 for a frame that it did not read or write, one that returns a later ground's number first, and a
 -- number that document 01 does not give to that function.
 -- Assumes nothing.
@@ -14,18 +14,18 @@ use mathlib.Core.Logic.{_⊎_, inl, inr}
 use mathlib.Core.List.{List, [], _∷_, _++_}
 use native.Mathlib.Omega.{arith}
 use lib.ListN.{length, take}
-use Rattle.frame.specs.Header.{headerError, totalOf, parsed}
-use Rattle.frame.specs.declared.Parsed.{Parsed}
-use Rattle.frame.specs.declared.Parsed.the-variants as headers
+use Rattle.deframer.specs.Header.{headerError, totalOf, parsed}
+use Rattle.deframer.specs.declared.Parsed.{Parsed}
+use Rattle.deframer.specs.declared.Parsed.the-variants as headers
 use Rattle.decoder.specs.Fields.{Result, ok, refused}
 use Rattle.decoder.proofs.Results.{Sound, message-sound}
 use Rattle.message.specs.Frames.{headerOf, readFrame}
-use Rattle.frame.specs.Deframe.{deframed, ended}
-use Rattle.frame.specs.declared.Deframer.{Deframer}
-use Rattle.frame.specs.declared.Progress.{Progress}
-use Rattle.frame.specs.declared.Progress.the-variants as progress
-use Rattle.frame.specs.declared.End.{End}
-use Rattle.frame.specs.declared.End.the-variants as end
+use Rattle.deframer.specs.Deframe.{deframed, ended}
+use Rattle.deframer.specs.declared.Deframer.{Deframer}
+use Rattle.deframer.specs.declared.Progress.{Progress}
+use Rattle.deframer.specs.declared.Progress.the-variants as progress
+use Rattle.deframer.specs.declared.End.{End}
+use Rattle.deframer.specs.declared.End.the-variants as end
 use Rattle.message.specs.Records.{schemaOf}
 use Rattle.message.specs.declared.Kind.{Kind}
 use Rattle.message.specs.declared.Record.{Record}
@@ -36,12 +36,12 @@ use Rattle.writer.specs.declared.Encoded.{Encoded}
 use Rattle.writer.specs.declared.Encoded.the-variants as encoded
 use Rattle.bekurapi.specs.Answers.{parsedError, stateOf, progressError, endError, answerError}
 use Rattle.bekurapi.specs.Numbers.{recordFrom}
-use Rattle.c_calls.specs.Header.{HeaderParsed, Checks, Parses}
-use Rattle.c_calls.specs.Readings.{Read, Reads}
-use Rattle.c_calls.specs.Calls.{Deframed, Finished, Deframes, Finishes}
-use Rattle.c_calls.specs.RoundTrip.{Written, Writes}
-use Rattle.round_trip.specs.Refusals.{encodedSays, writeEntry}
-use Rattle.round_trip.proofs.Exactly.{written-exactly}
+use Rattle.thm_c.specs.Header.{HeaderParsed, Checks, Parses}
+use Rattle.thm_c.specs.Readings.{Read, Reads}
+use Rattle.thm_c.specs.Calls.{Deframed, Finished, Deframes, Finishes}
+use Rattle.thm_c.specs.RoundTrip.{Written, Writes}
+use Rattle.thm_round_trip.specs.Refusals.{encodedSays, writeEntry}
+use Rattle.thm_round_trip.proofs.Exactly.{written-exactly}
 use Rattle.refusals.specs.Grounds.{Ground, ground, First, refuses, numberOf, Exactly}
 use Rattle.refusals.proofs.Order.{Numbered, first-number, first-split, decided, end, unless-error, outcome-of, exactly, retold-exactly}
 use Rattle.thm_refusals.specs.Header.{faults, headerGrounds, headerCheck}

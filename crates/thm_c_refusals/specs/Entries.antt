@@ -5,22 +5,22 @@
 use Prim.Native.Nat.{ℕ}
 use mathlib.Core.List.{List}
 use lib.ListN.{length, getD}
-use Rattle.frame.specs.Header.{totalOf, headerSizeOf, idOf, typeOf}
-use Rattle.frame.specs.declared.Parsed.{Parsed}
-use Rattle.frame.specs.declared.Parsed.the-variants as headers
-use Rattle.frame.specs.Deframe.{Out}
-use Rattle.frame.specs.declared.End.{End}
+use Rattle.deframer.specs.Header.{totalOf, headerSizeOf, idOf, typeOf}
+use Rattle.deframer.specs.declared.Parsed.{Parsed}
+use Rattle.deframer.specs.declared.Parsed.the-variants as headers
+use Rattle.deframer.specs.Deframe.{Out}
+use Rattle.deframer.specs.declared.End.{End}
 use Rattle.message.specs.Frames.{Reading}
 use Rattle.message.specs.Spans.{spansOf}
 use Rattle.message.specs.declared.Kind.{Kind}
 use Rattle.writer.specs.Writing.{Writing, errorOf, countOf}
 use Rattle.bekurapi.specs.Answers.{typeNumber, parsedError, headerIn, stateOf, progressError, progressSize, endError, endShort, answerError}
 use Rattle.bekurapi.specs.Numbers.{numbersOf, recordFrom}
-use Rattle.c_calls.specs.Header.{HeaderParsed}
-use Rattle.c_calls.specs.Readings.{Read}
-use Rattle.c_calls.specs.Calls.{Deframed, Finished}
-use Rattle.c_calls.specs.RoundTrip.{Written}
-use Rattle.round_trip.specs.Refusals.{writeEntry}
+use Rattle.thm_c.specs.Header.{HeaderParsed}
+use Rattle.thm_c.specs.Readings.{Read}
+use Rattle.thm_c.specs.Calls.{Deframed, Finished}
+use Rattle.thm_c.specs.RoundTrip.{Written}
+use Rattle.thm_round_trip.specs.Refusals.{writeEntry}
 use Rattle.refusals.specs.Grounds.{Verdict, refuses, works, Entry, retold}
 use Rattle.thm_refusals.specs.Header.{headerGrounds}
 use Rattle.thm_refusals.specs.Deframer.{deframeEntry, finishEntry}

@@ -2,13 +2,13 @@
 -- Not promised: that the programs run as compiled; they are run and compared.
 -- Ruled out: a definition that gives another answer to one of document 01's examples.
 use mathlib.Core.Path.{refl}
-use Rattle.frame.specs.Header.{be16Of, be32Of, totalOf, headerSizeOf, idOf, headerError, typeOf, parsed}
-use Rattle.frame.specs.Header.{magicOk, dataTypeOk, streamTypeOk, totalOk, headerSizeOk, reservedOk, faultOf}
-use Rattle.frame.specs.Stream.{uncutIn, uncut}
-use Rattle.wire.specs.Varint.{joined, groups, varint, twosComplement}
-use Rattle.wire.specs.Tags.{wireType, split, tag, within, lengthPrefix}
-use Rattle.wire.specs.Skipping.{further as further-group, skipVarint, skipFixed, skipBytes, value, inGroup, groupIn}
-use Rattle.wire.specs.Fields.{littleEndian, content, behind, nextField}
+use Rattle.deframer.specs.Header.{be16Of, be32Of, totalOf, headerSizeOf, idOf, headerError, typeOf, parsed}
+use Rattle.deframer.specs.Header.{magicOk, dataTypeOk, streamTypeOk, totalOk, headerSizeOk, reservedOk, faultOf}
+use Rattle.deframer.specs.Stream.{uncutIn, uncut}
+use Rattle.wire_read.specs.Varint.{joined, groups, varint, twosComplement}
+use Rattle.wire_read.specs.Tags.{wireType, split, tag, within, lengthPrefix}
+use Rattle.wire_read.specs.Skipping.{further as further-group, skipVarint, skipFixed, skipBytes, value, inGroup, groupIn}
+use Rattle.wire_read.specs.Fields.{littleEndian, content, behind, nextField}
 use Rattle.decoder.specs.Schema.{width}
 use Rattle.decoder.specs.Fields.{look, setSlot, setBytes, setNumber, sameBytes, enter, addEntry, withField, andThen, inside, oneField, fieldsIn, readMessage}
 use Rattle.message.specs.Records.{recordOf, attachmentSizeOf}

@@ -3,11 +3,11 @@ use Prim.Native.Nat.{ℕ, zero, suc}
 use mathlib.Core.Path.{_≡_}
 use mathlib.Core.List.{List, [], _∷_}
 use lib.ListN.{length, replicate}
-use Rattle.frame.specs.Header.{headerError, parsed}
-use Rattle.frame.specs.Stream.{uncut}
-use Rattle.frame.specs.declared.FixedHeader.{FixedHeader}
-use Rattle.frame.specs.declared.Parsed.the-variants.{Good}
-use Rattle.frame.specs.declared.End.{End}
+use Rattle.deframer.specs.Header.{headerError, parsed}
+use Rattle.deframer.specs.Stream.{uncut}
+use Rattle.deframer.specs.declared.FixedHeader.{FixedHeader}
+use Rattle.deframer.specs.declared.Parsed.the-variants.{Good}
+use Rattle.deframer.specs.declared.End.{End}
 use Rattle.message.specs.Frames.{Reading, readFrame}
 use Rattle.message.specs.declared.Kind.{Kind}
 use Rattle.queue.specs.declared.Job.{Job}

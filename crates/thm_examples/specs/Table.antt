@@ -5,8 +5,8 @@ use mathlib.Core.Bool.{true, false}
 use mathlib.Core.List.{List, [], _∷_, _++_}
 use lib.IntN.{ℤ, pos, negsuc}
 use lib.ListN.{replicate}
-use Rattle.frame.specs.declared.FrameType.the-variants as types
-use Rattle.frame.specs.declared.End.the-variants as end
+use Rattle.deframer.specs.declared.FrameType.the-variants as types
+use Rattle.deframer.specs.declared.End.the-variants as end
 use Rattle.message.specs.declared.Kind.the-variants as kinds
 use Rattle.message.specs.declared.Record.the-variants.{Init}
 use Rattle.thm_examples.specs.Rows.{Row, stream, judged, says, reads, takes}

@@ -1,7 +1,7 @@
 -- For a user: when `deframe` and `finish` give which number. `deframe-gives` and `finish-gives` are of any call, by its contract alone.
 -- Promised, for any state, buffer and piece: 1, 2, a held refusal and, from `deframe`, 3 to 8, each exactly when its ground holds and none
 -- before it in the order does; the work where none holds; and the state, the count taken and the whole buffer afterwards, by either.
--- Not promised: anything over several calls, which `stream_trace` says.
+-- Not promised: anything over several calls, which `thm_stream` says.
 -- Ruled out: a deframer that refuses everything, one that always wants more, and one that gives 2 where the buffer is small, too.
 -- Assumes nothing.
 use Prim.Native.Nat.{ℕ, _<_, _≤_}
@@ -13,16 +13,16 @@ use native.Mathlib.Omega.{arith}
 use borrow.Author.Tests.{eqb-true, eqb-false, eq-eqb, ne-eqb, ltb-true, ltb-false, lt-leb}
 use lib.Dec.{eqb, ltb, leb}
 use lib.ListN.{length, take}
-use Rattle.frame.specs.Header.{maxFrame, headerError, faultOf, totalOf}
-use Rattle.frame.specs.Deframe.{knownOf, stream, nextFrame, Out, moved, advance, unmoved, deframed, ended}
-use Rattle.frame.specs.declared.Deframer.{Deframer}
-use Rattle.frame.specs.declared.Step.{Step}
-use Rattle.frame.specs.declared.Progress.{Progress}
-use Rattle.frame.specs.declared.Progress.the-variants.{Frame, NeedMore, Refused}
-use Rattle.frame.specs.declared.End.{End}
-use Rattle.frame.specs.declared.End.the-variants as end
-use Rattle.frame.proofs.Codes.{first-sixteen, Code, fault-code}
-use Rattle.stream_trace.specs.Trace.{Deframes, Finishes}
+use Rattle.deframer.specs.Header.{maxFrame, headerError, faultOf, totalOf}
+use Rattle.deframer.specs.Deframe.{knownOf, stream, nextFrame, Out, moved, advance, unmoved, deframed, ended}
+use Rattle.deframer.specs.declared.Deframer.{Deframer}
+use Rattle.deframer.specs.declared.Step.{Step}
+use Rattle.deframer.specs.declared.Progress.{Progress}
+use Rattle.deframer.specs.declared.Progress.the-variants.{Frame, NeedMore, Refused}
+use Rattle.deframer.specs.declared.End.{End}
+use Rattle.deframer.specs.declared.End.the-variants as end
+use Rattle.deframer.proofs.Codes.{first-sixteen, Code, fault-code}
+use Rattle.thm_stream.specs.Trace.{Deframes, Finishes}
 use Rattle.refusals.specs.Grounds.{ground, works, refuses, Exactly}
 use Rattle.refusals.proofs.Tests.{Finds, each, missing, reworded, equal, below, up-to, choose}
 use Rattle.refusals.proofs.Order.{Outcome, end, when, passed, stopped, under-met, under-unmet, of-error, exactly}

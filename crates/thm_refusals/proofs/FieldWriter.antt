@@ -18,20 +18,20 @@ use ghost.Atoms.{Atoms}
 use contract.Monad.{Fun, fact}
 use denote.Ref.{RefT, now}
 use denote.Triple.Clauses.{atExit}
-use Rattle.field_writer.specs.Writing.{putVarint, putTag, putBytes, goodTag, fits, firstGround, answer}
-use Rattle.field_writer.specs.Writing.{stored, writtenAt, tagStored, tagWritten}
-use Rattle.field_writer.specs.declared.Written.{Written}
-use Rattle.field_writer.specs.declared.Written.the-variants as writes
-use Rattle.field_writer.proofs.write_varint as write-varint
-use Rattle.field_writer.proofs.write_tag as write-tag
-use Rattle.field_writer.proofs.write_raw as write-raw
-use Rattle.field_writer.proofs.write_bytes as write-bytes
+use Rattle.wire_write.specs.Writing.{putVarint, putTag, putBytes, goodTag, fits, firstGround, answer}
+use Rattle.wire_write.specs.Writing.{stored, writtenAt, tagStored, tagWritten}
+use Rattle.wire_write.specs.declared.Written.{Written}
+use Rattle.wire_write.specs.declared.Written.the-variants as writes
+use Rattle.wire_write.proofs.write_varint as write-varint
+use Rattle.wire_write.proofs.write_tag as write-tag
+use Rattle.wire_write.proofs.write_raw as write-raw
+use Rattle.wire_write.proofs.write_bytes as write-bytes
 use Rattle.refusals.specs.Grounds.{Exactly}
 use Rattle.refusals.proofs.Tests.{Finds, each, unlike, below, at-most}
 use Rattle.refusals.proofs.Order.{Outcome, end, unless, exactly}
 use Rattle.thm_refusals.specs.FieldWriter.{FieldWriting, untouchedOutput, wholeWritten, rawEntry, tagEntry}
 
--- what a contract of `field_writer` says of its answer and its output
+-- what a contract of `wire_write` says of its answer and its output
 abbrev pub Raw : (out : List ℕ) → (at : ℕ) → (x : List ℕ) → FieldWriting → Type 0
 Raw out at x r = (r .answer ≡ writtenAt out at x) × (r .output ≡ stored out at x)
 

@@ -14,14 +14,14 @@ use native.Mathlib.Omega.{arith}
 use borrow.Author.Tests.{ne-eqb}
 use lib.Dec.{eqb, ltb, leb}
 use lib.ListN.{length, take, drop, getD}
-use Rattle.wire.specs.Varint.{VarintResult, got, bad, joined, groups, varint}
-use Rattle.wire.specs.Tags.{WireType, VARINT, I64, LEN, SGROUP, EGROUP, I32, reserved, wireType, TagResult, field, ended, tagError}
-use Rattle.wire.specs.Tags.{split, tag, LengthResult, bytes, lengthError, within, lengthPrefix}
-use Rattle.wire.specs.Skipping.{maxDepth, SkipResult, skipped, skipError, further, skipVarint, skipFixed, skipBytes, value, inGroup}
-use Rattle.wire.specs.Skipping.{groupIn}
-use Rattle.wire.specs.Fields.{FieldResult, noField, varintField, fixed64Field, bytesField, groupField, fixed32Field, fieldError}
-use Rattle.wire.specs.Fields.{littleEndian, content, behind, nextField}
-use Rattle.wire.proofs.Bounds.{VarintIn, varint-in}
+use Rattle.wire_read.specs.Varint.{VarintResult, got, bad, joined, groups, varint}
+use Rattle.wire_read.specs.Tags.{WireType, VARINT, I64, LEN, SGROUP, EGROUP, I32, reserved, wireType, TagResult, field, ended, tagError}
+use Rattle.wire_read.specs.Tags.{split, tag, LengthResult, bytes, lengthError, within, lengthPrefix}
+use Rattle.wire_read.specs.Skipping.{maxDepth, SkipResult, skipped, skipError, further, skipVarint, skipFixed, skipBytes, value, inGroup}
+use Rattle.wire_read.specs.Skipping.{groupIn}
+use Rattle.wire_read.specs.Fields.{FieldResult, noField, varintField, fixed64Field, bytesField, groupField, fixed32Field, fieldError}
+use Rattle.wire_read.specs.Fields.{littleEndian, content, behind, nextField}
+use Rattle.wire_read.proofs.Bounds.{VarintIn, varint-in}
 use Rattle.decoder.specs.Schema.{Schema, entry}
 use Rattle.decoder.specs.Fields.{State, Result, ok, refused, blank, Reader, Target, aNumber, someBytes, anEntry, aMessage, unknown, look}
 use Rattle.decoder.specs.Fields.{setSlot, setBytes, setNumber, addEntry, withField, andThen, inside, oneField, fieldsIn, readMessage}

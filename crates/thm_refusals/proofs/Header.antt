@@ -12,7 +12,7 @@ use mathlib.Core.List.{List}
 use native.Mathlib.Omega.{arith}
 use lib.Dec.{eqb}
 use lib.ListN.{length}
-use Rattle.frame.specs.Header.{maxFrame, magicOk, dataTypeOk, streamTypeOk, totalOk, headerSizeOk, reservedOk, totalOf, headerSizeOf, faultOf, headerError}
+use Rattle.deframer.specs.Header.{maxFrame, magicOk, dataTypeOk, streamTypeOk, totalOk, headerSizeOk, reservedOk, totalOf, headerSizeOf, faultOf, headerError}
 use Rattle.refusals.specs.Grounds.{Exactly}
 use Rattle.refusals.proofs.Tests.{Told, Finds, each, either, unlike, reworded, equal, up-to, choose}
 use Rattle.refusals.proofs.Order.{Outcome, Numbered, end, unless, exactly, first-says}

@@ -15,8 +15,8 @@ use native.Mathlib.Omega.{arith}
 use borrow.Author.Tests.{eq-eqb, le-leb, lt-leb}
 use lib.Dec.{eqb, leb}
 use lib.ListN.{length, take, getD}
-use Rattle.frame.specs.Header.{faultOf, totalOf, idOf}
-use Rattle.frame.proofs.Codes.{first-sixteen, Code, fault-code}
+use Rattle.deframer.specs.Header.{faultOf, totalOf, idOf}
+use Rattle.deframer.proofs.Codes.{first-sixteen, Code, fault-code}
 use Rattle.decoder.specs.Rows.{rowNumbers}
 use Rattle.decoder.specs.Fields.{Result, ok, refused}
 use Rattle.decoder.proofs.Results.{Sound, message-sound}
@@ -24,8 +24,8 @@ use Rattle.message.specs.Records.{schemaOf, recordOf, attachmentSizeOf}
 use Rattle.message.specs.Frames.{Reading, headerOf, bodyOf, kindFits, refusedUntouched, refusedCleared, withAttachment, answered, readFrame}
 use Rattle.message.specs.declared.Kind.{Kind}
 use Rattle.message.specs.declared.Kind.the-variants as kinds
-use Rattle.stream_trace.specs.Trace.{Reads}
-use Rattle.stream_trace.proofs.Traced.{all-read}
+use Rattle.thm_stream.specs.Trace.{Reads}
+use Rattle.thm_stream.proofs.Traced.{all-read}
 use Rattle.refusals.specs.Grounds.{Ground, ground, works, refuses, Exactly}
 use Rattle.refusals.proofs.Tests.{Finds, each, unlike, equal, below, at-most}
 use Rattle.refusals.proofs.Order.{Outcome, end, when, when-not, unless, unless-two, unless-error, followed, exactly}

@@ -4,8 +4,8 @@
 use Prim.Native.Nat.{ℕ, _+_, _*_, _^_, _<_}
 use mathlib.Core.List.{List, [], _∷_, _++_}
 use lib.ListN.{length, take, drop}
-use Rattle.field_writer.specs.declared.Written.{Written}
-use Rattle.field_writer.specs.declared.Written.the-variants as writes
+use Rattle.wire_write.specs.declared.Written.{Written}
+use Rattle.wire_write.specs.declared.Written.the-variants as writes
 use Rattle.refusals.specs.Grounds.{ground, Verdict, refuses, works, Entry}
 
 -- what a call leaves: its answer, and the output

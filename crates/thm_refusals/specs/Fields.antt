@@ -2,7 +2,7 @@
 -- message's fields as one list, place after place, those within skipped groups, map entries and inner messages too.
 --
 -- Each ground is a proposition about the bytes at its place. Which place comes next is for the bytes to say: the list follows the reading
--- (crates `wire` and `decoder`, whose names are used). `s` is what is left of the part, `at` its place in the frame, `st` what has been
+-- (crates `wire_read` and `decoder`, whose names are used). `s` is what is left of the part, `at` its place in the frame, `st` what has been
 -- read.
 -- Assumes nothing.
 use Prim.Native.Nat.{ℕ, zero, suc, _+_, _/_, _%_, _^_, _<_, _≤_}
@@ -12,10 +12,10 @@ use mathlib.Core.Bool.{cond}
 use mathlib.Core.List.{List, [], _∷_, _++_}
 use lib.Dec.{eqb}
 use lib.ListN.{length, take, drop, getD}
-use Rattle.wire.specs.Varint.{VarintResult, got, bad, varint}
-use Rattle.wire.specs.Tags.{WireType, VARINT, I64, LEN, SGROUP, EGROUP, I32, reserved, wireType, TagResult, field, ended, tagError, tag}
-use Rattle.wire.specs.Skipping.{SkipResult, skipped, skipError, value, groupIn, maxDepth}
-use Rattle.wire.specs.Fields.{FieldResult, noField, varintField, fixed64Field, bytesField, groupField, fixed32Field, fieldError, nextField}
+use Rattle.wire_read.specs.Varint.{VarintResult, got, bad, varint}
+use Rattle.wire_read.specs.Tags.{WireType, VARINT, I64, LEN, SGROUP, EGROUP, I32, reserved, wireType, TagResult, field, ended, tagError, tag}
+use Rattle.wire_read.specs.Skipping.{SkipResult, skipped, skipError, value, groupIn, maxDepth}
+use Rattle.wire_read.specs.Fields.{FieldResult, noField, varintField, fixed64Field, bytesField, groupField, fixed32Field, fieldError, nextField}
 use Rattle.decoder.specs.Schema.{Schema, entry}
 use Rattle.decoder.specs.Fields.{State, Result, ok, refused, blank, Reader, Target, aNumber, someBytes, anEntry, aMessage, unknown, look}
 use Rattle.decoder.specs.Fields.{setSlot, setBytes, setNumber, addEntry, fieldsIn}

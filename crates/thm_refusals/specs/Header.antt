@@ -5,7 +5,7 @@ use mathlib.Core.Path.{_≡_}
 use mathlib.Core.Logic.{_⊎_}
 use mathlib.Core.List.{List, [], _∷_}
 use lib.ListN.{length, getD}
-use Rattle.frame.specs.Header.{maxFrame, totalOf, headerSizeOf}
+use Rattle.deframer.specs.Header.{maxFrame, totalOf, headerSizeOf}
 use Rattle.refusals.specs.Grounds.{Ground, ground, Entry, numbered}
 
 -- the paper's byte n of a header, counted from 1: n is never 0 below

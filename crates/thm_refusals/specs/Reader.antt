@@ -7,7 +7,7 @@ use mathlib.Core.Bool.{cond, _&&_}
 use mathlib.Core.List.{List, [], _∷_, _++_}
 use lib.Dec.{leb}
 use lib.ListN.{length, take}
-use Rattle.frame.specs.Header.{totalOf, idOf}
+use Rattle.deframer.specs.Header.{totalOf, idOf}
 use Rattle.decoder.specs.Rows.{rowNumbers, laidOut}
 use Rattle.decoder.specs.Fields.{State, Result, ok, refused, blank, readMessage}
 use Rattle.message.specs.Records.{schemaOf, recordOf, attachmentSizeOf}

@@ -6,15 +6,15 @@ use mathlib.Core.List.{List, [], _∷_, _++_}
 use lib.ListN.{length, drop, getD, drop-of-length-le}
 use native.Mathlib.Omega.{arith}
 use native.Mathlib.Numerals.{add-one}
-use Rattle.field_writer.specs.Writing.{putBytes}
+use Rattle.wire_write.specs.Writing.{putBytes}
 use Rattle.decoder.specs.Rows.{Row, rowsIn}
 use Rattle.decoder.proofs.RowLaws.{length-rowsIn, rowAt}
-use Rattle.frame.proofs.Codes.{both}
+use Rattle.deframer.proofs.Codes.{both}
 use Rattle.writer.specs.Encoding.{putEntry, putRows}
 use Rattle.outgoing.specs.Items.{noItem, itemsOf, itemWithin, itemsWithin}
 use Rattle.writer.specs.Items.{Puts, putItem, putItems, bytesSize, entrySize, rowsSize, itemSize, itemsSize, rowAt as rowIn}
 use Rattle.outgoing.specs.declared.Item.{Item}
-use Rattle.validation.proofs.GroundLaws.{few-items}
+use Rattle.writer_checks.proofs.GroundLaws.{few-items}
 use Rattle.writer.proofs.Outputs.{Left, first-fits, steps, none-left}
 
 -- ---- fields

@@ -4,7 +4,7 @@ use mathlib.Core.Path.{_≡_, sym, _∙_}
 use mathlib.Core.List.{List, [], _++_}
 use lib.ListN.{length}
 use borrow.Author.Tests.{eq-eqb, ne-eqb}
-use Rattle.field_writer.specs.Writing.{putVarint, putTag, putBytes}
+use Rattle.wire_write.specs.Writing.{putVarint, putTag, putBytes}
 use Rattle.decoder.specs.Schema.{Integer}
 use Rattle.decoder.specs.Fields.{partOf}
 use Rattle.writer.specs.Encoding.{wide, putNumber, putSome}

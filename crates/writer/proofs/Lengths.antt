@@ -7,12 +7,12 @@ use lib.ListN.{length, drop, getD, length-append, length-take, length-drop}
 use lib.Dec.{eqb}
 use native.Mathlib.Omega.{arith}
 use borrow.Author.Tests.{leb-true}
-use Rattle.field_writer.specs.Writing.{putBytes}
+use Rattle.wire_write.specs.Writing.{putBytes}
 use Rattle.decoder.specs.Rows.{Row}
 use Rattle.decoder.specs.Fields.{partOf}
-use Rattle.frame.proofs.Codes.{both}
+use Rattle.deframer.proofs.Codes.{both}
 use Rattle.writer.specs.Encoding.{putSome, putEntry, putRows}
-use Rattle.validation.specs.Grounds.{rowsWithin}
+use Rattle.writer_checks.specs.Grounds.{rowsWithin}
 use Rattle.outgoing.specs.Items.{itemsOf, itemWithin, itemsWithin}
 use Rattle.writer.specs.Items.{RowIn, putItem, putItems, putPart, putInit, putMessage, bytesSize, entrySize, rowsSize, itemSize}
 use Rattle.writer.specs.Items.{itemsSize, sizeIf, initSizes, sizesOf, initWithin, messageWithin}

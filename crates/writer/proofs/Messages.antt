@@ -10,7 +10,7 @@ use Rattle.message.specs.Records.{schemaOf}
 use Rattle.message.specs.declared.Kind.{Kind}
 use Rattle.message.specs.declared.Kind.the-variants as kinds
 use Rattle.writer.specs.Encoding.{putFields}
-use Rattle.validation.specs.Grounds.{spansWithin, rowsWithin}
+use Rattle.writer_checks.specs.Grounds.{spansWithin, rowsWithin}
 use Rattle.outgoing.specs.Items.{items, itemWithin, itemsWithin, schemaNumber}
 use Rattle.writer.specs.Items.{putItem, putItems, putInit, putMessage, initWithin, messageWithin, sizesOf, messageIn}
 use Rattle.outgoing.specs.declared.Content.{Content}

@@ -6,9 +6,9 @@ use lib.ListN.{length, set, length-append}
 use native.Mathlib.Omega.{arith}
 use native.Mathlib.Numerals.{add-one}
 use borrow.Author.Tests.{le-leb}
-use Rattle.field_writer.specs.Writing.{stored, writtenAt}
-use Rattle.field_writer.specs.declared.Written.{Written}
-use Rattle.field_writer.proofs.Outputs.{stored-sets, stored-then, length-stored}
+use Rattle.wire_write.specs.Writing.{stored, writtenAt}
+use Rattle.wire_write.specs.declared.Written.{Written}
+use Rattle.wire_write.proofs.Outputs.{stored-sets, stored-then, length-stored}
 use Rattle.writer.specs.Items.{Puts, placeOf}
 
 pub record Left (rest all out₀ : List ℕ) (at₀ : ℕ) (out : List ℕ) (at : ℕ) : Type 0 where
@@ -47,7 +47,7 @@ none-left {out = out} {at = at} l =
 pub nothing : (out : List ℕ) (at : ℕ) → at ≤ length out → Puts [] out at at out
 nothing out at h = none-left (starts [] out at (omega arith))
 
--- what `field_writer` writes where there is room
+-- what `wire_write` writes where there is room
 pub wrote : (x out : List ℕ) (at : ℕ) → at + length x ≤ length out → (w : Written) → w ≡ writtenAt out at x → (r : ℕ) → r ≡ placeOf w at
     → (after : List ℕ) → after ≡ stored out at x → Puts x out at r after
 unfolding writtenAt

@@ -6,14 +6,14 @@ use lib.ListN.{length, drop, length-append}
 use lib.Dec.{leb, eqb}
 use native.Mathlib.Omega.{arith}
 use borrow.Author.Tests.{le-leb, leb-true, ne-eqb}
-use Rattle.frame.specs.Header.{maxFrame, unless}
-use Rattle.frame.proofs.Codes.{kept}
-use Rattle.field_writer.specs.Writing.{stored}
+use Rattle.deframer.specs.Header.{maxFrame, unless}
+use Rattle.deframer.proofs.Codes.{kept}
+use Rattle.wire_write.specs.Writing.{stored}
 use Rattle.message.specs.declared.Kind.{Kind}
 use Rattle.message.specs.declared.Record.{Record}
 use Rattle.outgoing.specs.Content.{kindOf, recordId, rowCount, slotsOf}
 use Rattle.writer.specs.Writing.{maxHeader, headerSize, fixedHeader, messageOf, frameOf, sizeError, writeError, written}
-use Rattle.validation.specs.Grounds.{contentError}
+use Rattle.writer_checks.specs.Grounds.{contentError}
 use Rattle.writer.specs.Items.{Puts, messageIn, frameWith, writtenWith}
 use Rattle.writer.specs.declared.Encoded.the-variants.{Frame, Refused}
 use Rattle.outgoing.specs.declared.Content.{Content}

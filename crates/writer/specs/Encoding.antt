@@ -5,8 +5,8 @@ use mathlib.Core.Bool.{cond}
 use mathlib.Core.List.{List, [], _∷_, _++_}
 use lib.ListN.{length, getD}
 use lib.Dec.{eqb}
-use Rattle.wire.specs.Varint.{lowI32}
-use Rattle.field_writer.specs.Writing.{putVarint, signExtended, putTag, putBytes}
+use Rattle.wire_read.specs.Varint.{lowI32}
+use Rattle.wire_write.specs.Writing.{putVarint, signExtended, putTag, putBytes}
 use Rattle.decoder.specs.Schema.{Integer, uint32, int32, Schema, done, number, bytes, map, message, width}
 use Rattle.decoder.specs.Rows.{Row}
 use Rattle.decoder.specs.Fields.{partOf}

@@ -6,16 +6,16 @@ use mathlib.Core.Bool.{Bool, true, false, cond, _&&_}
 use mathlib.Core.List.{List, [], _∷_, _++_}
 use lib.ListN.{length, getD}
 use lib.Dec.{eqb}
-use Rattle.field_writer.specs.Writing.{putVarint, putTag, putBytes, stored}
-use Rattle.field_writer.specs.declared.Written.{Written}
-use Rattle.field_writer.specs.declared.Written.the-variants as writes
+use Rattle.wire_write.specs.Writing.{putVarint, putTag, putBytes, stored}
+use Rattle.wire_write.specs.declared.Written.{Written}
+use Rattle.wire_write.specs.declared.Written.the-variants as writes
 use Rattle.decoder.specs.Schema.{Integer, uint32, int32}
 use Rattle.decoder.specs.Rows.{Row, rowsIn}
 use Rattle.decoder.specs.Fields.{partOf}
-use Rattle.frame.specs.Header.{maxFrame}
+use Rattle.deframer.specs.Header.{maxFrame}
 use Rattle.message.specs.Records.{schemaOf}
 use Rattle.writer.specs.Encoding.{putNumber, putSome, putRows, putFields}
-use Rattle.validation.specs.Grounds.{rowsWithin}
+use Rattle.writer_checks.specs.Grounds.{rowsWithin}
 use Rattle.outgoing.specs.Items.{itemsOf, itemsWithin}
 use Rattle.writer.specs.Writing.{headerSize, fixedHeader, sizeError, Writing, refusedWith, wrote}
 use Rattle.outgoing.specs.declared.Content.{Content}

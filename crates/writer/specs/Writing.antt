@@ -4,7 +4,7 @@ use mathlib.Core.Bool.{cond}
 use mathlib.Core.List.{List, [], _∷_, _++_}
 use lib.ListN.{length, drop}
 use lib.Dec.{leb, eqb}
-use Rattle.frame.specs.Header.{maxFrame, unless}
+use Rattle.deframer.specs.Header.{maxFrame, unless}
 use Rattle.decoder.specs.Rows.{rowsIn, Row}
 use Rattle.message.specs.Records.{schemaOf}
 use Rattle.message.specs.declared.Kind.{Kind}
@@ -12,7 +12,7 @@ use Rattle.message.specs.declared.Kind.the-variants as kinds
 use Rattle.message.specs.declared.Record.{Record}
 use Rattle.outgoing.specs.Content.{kindOf, recordId, rowCount, slotsOf}
 use Rattle.writer.specs.Encoding.{putFields}
-use Rattle.validation.specs.Grounds.{contentError}
+use Rattle.writer_checks.specs.Grounds.{contentError}
 use Rattle.writer.specs.declared.Encoded.{Encoded}
 use Rattle.writer.specs.declared.Encoded.the-variants.{Frame, Refused}
 
@@ -77,7 +77,7 @@ maxHeader = 65535
 unfoldable pub sizeError : (size total room : ℕ) → ℕ
 sizeError size total room = unless (leb total maxFrame) 19 (unless (leb size maxHeader) 20 (unless (leb total room) 27 0))
 
--- "Writer 18's first three grounds, 17, 18's others, 15" (crate `validation`), "19, 20, 27": the first that holds, 0 for none
+-- "Writer 18's first three grounds, 17, 18's others, 15" (crate `writer_checks`), "19, 20, 27": the first that holds, 0 for none
 unfoldable pub writeError : Record → (source numbers body : List ℕ) → (room : ℕ) → ℕ
 writeError r source numbers body room =
     unless (eqb (contentError (kindOf r) (slotsOf r) (rowCount r) source numbers (length body)) 0)

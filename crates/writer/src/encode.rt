@@ -14,7 +14,7 @@ ghost use mathlib.Core.Bool.{true, cond};
 ghost use Prim.Native.Nat.{_+_, _≤_};
 ghost use lib.Dec.{eqb};
 ghost use lib.ListN.{length};
-ghost use Rattle.frame.specs.Header.{maxFrame};
+ghost use Rattle.deframer.specs.Header.{maxFrame};
 ghost use Rattle.decoder.specs.Rows.{rowsIn};
 ghost use Rattle.writer.specs.Writing.{dataType, maxHeader, sizeError};
 ghost use Rattle.outgoing.specs.Items.{schemaNumber};
@@ -29,10 +29,10 @@ fn frame_size(size: usize, body: usize) -> usize
     requires { ⌜ size ≤ mostMessage ⌝ }
     ensures { λ r. ⌜ SizeOf (16 + size + body) r ⌝ }
 {
-    if body > frame::MAX_FRAME {
-        return frame::MAX_FRAME + 1;
+    if body > deframer::MAX_FRAME {
+        return deframer::MAX_FRAME + 1;
     }
-    frame::HEADER + size + body
+    deframer::HEADER + size + body
 }
 
 // 19: the frame; 20: the header message; 27: the output. 0 for none.
@@ -41,7 +41,7 @@ fn size_error(size: usize, body: usize, room: usize) -> u32
     ensures { λ r. ⌜ r ≡ sizeError size (16 + size + body) room ⌝ }
 {
     let total = frame_size(size, body);
-    if total > frame::MAX_FRAME {
+    if total > deframer::MAX_FRAME {
         return 19;
     }
     if size > MAX_HEADER {
@@ -78,7 +78,7 @@ fn put_frame(
         (now (out .entry)) 0 r (now (out .exit)) ⌝ }
 {
     let kind = c.kind;
-    let total = frame::HEADER + sizes.message + body.len();
+    let total = deframer::HEADER + sizes.message + body.len();
     let start = put_header(
         kind,
         total as u32,
@@ -87,7 +87,7 @@ fn put_frame(
         out,
     );
     let end = put_message(schema_number(kind), c, sizes, source, rows, out, start);
-    place_behind(field_writer::write_raw(body, out, end), end)
+    place_behind(wire_write::write_raw(body, out, end), end)
 }
 
 // Of a content that has no other ground of refusal.

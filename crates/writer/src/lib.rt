@@ -8,7 +8,7 @@ mod sizes;
 use encode::write_content;
 use message::Record;
 use outgoing::content_of;
-use validation::content_error;
+use writer_checks::content_error;
 ghost use mathlib.Core.Path.{_≡_};
 ghost use Rattle.writer.specs.Writing.{written};
 

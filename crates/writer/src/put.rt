@@ -8,7 +8,7 @@ use crate::sizes::widened;
 use decoder::INIT;
 use decoder::REQUEST_META;
 use decoder::RESPONSE_META;
-use field_writer::Written;
+use wire_write::Written;
 use outgoing::Content;
 use outgoing::Item;
 use outgoing::MAX_FIELDS;
@@ -18,7 +18,7 @@ ghost use mathlib.Core.Bool.{true};
 ghost use mathlib.Core.List.{_++_};
 ghost use Prim.Native.Nat.{_+_, _≤_};
 ghost use lib.ListN.{length};
-ghost use Rattle.field_writer.specs.Writing.{putTag, putVarint, putBytes};
+ghost use Rattle.wire_write.specs.Writing.{putTag, putVarint, putBytes};
 ghost use Rattle.decoder.specs.Fields.{partOf};
 ghost use Rattle.decoder.specs.Rows.{rowsIn};
 ghost use Rattle.writer.specs.Encoding.{putNumber, putSome, putEntry, putRows};
@@ -41,8 +41,8 @@ fn put_tagged(number: u32, wire_type: u32, value: u64, out: &mut [u8], at: usize
     ensures { λ r. ⌜ Puts (putTag number «wire_type» ++ putVarint value) (now (out .entry)) at r (now (out .exit)) ⌝ }
 {
     let tag = (number as u64) * 8 + (wire_type as u64);
-    let next = place_behind(field_writer::write_varint(tag, out, at), at);
-    place_behind(field_writer::write_varint(value, out, next), next)
+    let next = place_behind(wire_write::write_varint(tag, out, at), at);
+    place_behind(wire_write::write_varint(value, out, next), next)
 }
 
 fn put_number(number: u32, value: u32, signed: bool, out: &mut [u8], at: usize) -> usize
@@ -64,7 +64,7 @@ fn put_span(number: u32, start: u32, size: u32, source: &[u8], out: &mut [u8], a
     let end = first + (size as usize);
     let inside = put_tagged(number, 2, size as u64, out, at);
     place_behind(
-        field_writer::write_raw(&source[first..end], out, inside),
+        wire_write::write_raw(&source[first..end], out, inside),
         inside,
     )
 }

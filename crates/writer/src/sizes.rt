@@ -11,7 +11,7 @@ use outgoing::item_at;
 ghost use mathlib.Core.Path.{_≡_};
 ghost use Prim.Native.Nat.{_+_, _≤_, _<_};
 ghost use lib.ListN.{length, getD};
-ghost use Rattle.field_writer.specs.Writing.{putTag};
+ghost use Rattle.wire_write.specs.Writing.{putTag};
 ghost use Rattle.decoder.specs.Rows.{rowsIn};
 ghost use Rattle.writer.specs.Encoding.{wide, putNumber};
 ghost use Rattle.outgoing.specs.Items.{itemsOf, Placed};
@@ -30,7 +30,7 @@ pub(crate) fn widened(value: u32, signed: bool) -> u64
     ensures { λ r. ⌜ r ≡ wide (integerOf signed) value ⌝ }
 {
     if signed {
-        field_writer::sign_extend(wire::low_i32(value as u64))
+        wire_write::sign_extend(wire_read::low_i32(value as u64))
     } else {
         value as u64
     }
@@ -39,7 +39,7 @@ pub(crate) fn widened(value: u32, signed: bool) -> u64
 fn tag_size(number: u32, wire_type: u32) -> usize
     ensures { λ r. ⌜ (r ≡ length (putTag number «wire_type»)) × (r ≤ 10) ⌝ }
 {
-    field_writer::varint_len((number as u64) * 8 + (wire_type as u64))
+    wire_write::varint_len((number as u64) * 8 + (wire_type as u64))
 }
 
 fn number_size(number: u32, value: u32, signed: bool) -> usize
@@ -48,7 +48,7 @@ fn number_size(number: u32, value: u32, signed: bool) -> usize
     if value == 0 {
         return 0;
     }
-    tag_size(number, 0) + field_writer::varint_len(widened(value, signed))
+    tag_size(number, 0) + wire_write::varint_len(widened(value, signed))
 }
 
 // A field of `size` bytes.
@@ -56,7 +56,7 @@ pub(crate) fn bytes_size(number: u32, size: usize) -> usize
     requires { ⌜ size ≤ mostMessage ⌝ }
     ensures { λ r. ⌜ (r ≡ bytesSize number size) × (r ≤ size + 20) ⌝ }
 {
-    tag_size(number, 2) + field_writer::varint_len(size as u64) + size
+    tag_size(number, 2) + wire_write::varint_len(size as u64) + size
 }
 
 // A field of bytes that is left out where the mark is 0.

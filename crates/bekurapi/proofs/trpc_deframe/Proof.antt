@@ -1,7 +1,7 @@
 -- What the deframer gives, as numbers.
 use mathlib.Core.Path.{ap, _∙_}
 use borrow.Author.Needs.{needs}
-use Rattle.frame.specs.declared.Step.{Step}
+use Rattle.deframer.specs.declared.Step.{Step}
 use Rattle.bekurapi.specs.Answers.{progressError, progressSize}
 use Rattle.bekurapi.proofs.trpc_deframe.Statement.{statement}
 use Rattle.bekurapi.proofs.trpc_deframe.Tie as tie

@@ -1,7 +1,7 @@
 -- What a header says, as numbers.
 use mathlib.Core.Path.{ap, _∙_}
 use borrow.Author.Needs.{needs}
-use Rattle.frame.specs.declared.FixedHeader.{FixedHeader}
+use Rattle.deframer.specs.declared.FixedHeader.{FixedHeader}
 use Rattle.bekurapi.specs.Answers.{typeNumber, parsedError, headerIn}
 use Rattle.bekurapi.proofs.trpc_header_parse.Statement.{statement}
 use Rattle.bekurapi.proofs.trpc_header_parse.Tie as tie

@@ -6,11 +6,11 @@ use mathlib.Core.List.{List}
 use native.Mathlib.Omega.{arith}
 use lib.ListN.{length, take, drop, length-drop}
 use lib.Seq.{take-all}
-use Rattle.frame.specs.Deframe.{deframed}
-use Rattle.frame.specs.Calls.{isRefused}
-use Rattle.frame.specs.declared.Deframer.{Deframer}
-use Rattle.frame.specs.declared.Step.{Step}
-use Rattle.frame.proofs.Taken.{taken-within, taken-some}
+use Rattle.deframer.specs.Deframe.{deframed}
+use Rattle.deframer.specs.Calls.{isRefused}
+use Rattle.deframer.specs.declared.Deframer.{Deframer}
+use Rattle.deframer.specs.declared.Step.{Step}
+use Rattle.deframer.proofs.Taken.{taken-within, taken-some}
 use borrow.Author.Needs.{needs}
 use Rattle.listing.proofs.deframe_rest.Statement.{statement}
 use Rattle.listing.proofs.deframe_rest.Tie as tie

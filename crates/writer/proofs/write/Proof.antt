@@ -6,11 +6,11 @@ use mathlib.Core.Bool.{true}
 use mathlib.Core.List.{List}
 use lib.ListN.{length}
 use Rattle.writer.specs.Writing.{Writing}
-use Rattle.validation.specs.Grounds.{contentError}
+use Rattle.writer_checks.specs.Grounds.{contentError}
 use Rattle.outgoing.specs.Items.{schemaNumber}
 use Rattle.writer.specs.Items.{messageWithin, Lent, RowsIn}
 use Rattle.outgoing.specs.declared.Content.{Content}
-use Rattle.validation.proofs.Accepted.{accepted}
+use Rattle.writer_checks.proofs.Accepted.{accepted}
 use Rattle.writer.proofs.Messages.{message-within}
 use Rattle.writer.proofs.Refusals.{refused-content, accepted-content}
 use borrow.Author.Needs.{needs}

@@ -1,4 +1,4 @@
-//! The reference itself: document 01's checked examples, and the frames that protoc wrote (crates/records, crates/writes).
+//! The reference itself: document 01's checked examples, and the frames that protoc wrote (crates/test_records, crates/test_writes).
 
 use super::deframer::{deframe, finish, uncut, Answer, End, State};
 use super::header::{judge, LARGEST};
@@ -81,7 +81,7 @@ fn due_times() {
     assert_eq!(queue.take(), Err(23));
 }
 
-// ---- The frames of crates/records: those that protoc wrote, with the values that it was given, and damaged ones. -------
+// ---- The frames of crates/test_records: those that protoc wrote, with the values that it was given, and damaged ones. -------
 
 const RECORDS: &str = concat!(env!("CARGO_MANIFEST_DIR"), "/../../crates/records");
 const WRITES: &str = concat!(env!("CARGO_MANIFEST_DIR"), "/../../crates/writes");
@@ -135,7 +135,7 @@ fn hex(frame: &[u8], start: u32, length: u32) -> String {
     frame[start as usize..][..length as usize].iter().map(|byte| format!("{byte:02x}")).collect()
 }
 
-/// What crates/records prints of a frame.
+/// What crates/test_records prints of a frame.
 fn printed(kind: Kind, frame: &[u8], lent: usize) -> String {
     let before: Vec<u32> = (0..lent as u32).map(|place| 1 << 31 | place).collect();
     let (mut rows, mut n) = (before.clone(), [9; 24]);
@@ -176,7 +176,7 @@ fn printed(kind: Kind, frame: &[u8], lent: usize) -> String {
     lines.join("\n") + "\n"
 }
 
-/// The cases of crates/records: label, kind, row numbers lent, frame.
+/// The cases of crates/test_records: label, kind, row numbers lent, frame.
 fn cases() -> Vec<(String, Kind, usize, Vec<u8>)> {
     let input = std::fs::read(format!("{RECORDS}/stdin")).unwrap();
     let mut rest = input.as_slice();
@@ -236,7 +236,7 @@ fn frames_of_protoc_written_again() {
     assert_eq!((whole, equal), (662, 295));
 }
 
-/// The calls of crates/writes.
+/// The calls of crates/test_writes.
 #[test]
 fn writes_of_protoc() {
     let input = std::fs::read(format!("{WRITES}/stdin")).unwrap();

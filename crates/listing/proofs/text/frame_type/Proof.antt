@@ -3,7 +3,7 @@ use mathlib.Core.Path.{_≡_, sym, ap}
 use mathlib.Core.List.{List, _++_}
 use Prim.Native.Nat.{ℕ}
 use native.Mathlib.Omega.{arith}
-use Rattle.frame.specs.declared.FrameType.{FrameType}
+use Rattle.deframer.specs.declared.FrameType.{FrameType}
 use Rattle.listing.specs.Lines.{ascii, typeName}
 use Rattle.listing.proofs.Adding.{adds-as}
 use borrow.Author.Needs.{needs}

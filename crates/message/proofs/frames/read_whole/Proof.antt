@@ -1,6 +1,6 @@
 -- A frame of another size or of another kind is refused with 9; any other is whole (`WholeFrames`).
 use borrow.Author.Needs.{needs}
-use Rattle.frame.proofs.Tests.{fails, holds}
+use Rattle.deframer.proofs.Tests.{fails, holds}
 use Rattle.message.proofs.WholeFrames.{size-refused, kind-refused, whole-frame}
 use Rattle.message.proofs.frames.read_whole.Statement.{statement}
 use Rattle.message.proofs.frames.read_whole.Tie as tie

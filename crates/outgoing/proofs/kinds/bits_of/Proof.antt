@@ -2,8 +2,8 @@
 use mathlib.Core.Path.{ap, _∙_}
 use borrow.Author.Needs.{needs}
 use mir.Facts.{toZ-ofZ}
-use Rattle.wire.specs.Varint.{lowU32}
-use Rattle.field_writer.specs.Writing.{signExtended}
+use Rattle.wire_read.specs.Varint.{lowU32}
+use Rattle.wire_write.specs.Writing.{signExtended}
 use Rattle.outgoing.proofs.kinds.bits_of.Statement.{statement}
 use Rattle.outgoing.proofs.kinds.bits_of.Tie as tie
 

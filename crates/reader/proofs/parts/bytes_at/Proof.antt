@@ -4,7 +4,7 @@ use mathlib.Core.Path.{_≡_, refl, sym, ap, _∙_}
 use lib.ListN.{length}
 use native.Mathlib.Omega.{arith}
 use borrow.Author.Needs.{needs}
-use Rattle.wire.proofs.PartLaws.{part-empty}
+use Rattle.wire_read.proofs.PartLaws.{part-empty}
 use Rattle.decoder.proofs.PartEnds.{part-to-end}
 use Rattle.reader.specs.Places.{further}
 use Rattle.reader.proofs.parts.bytes_at.Statement.{statement}

@@ -5,12 +5,12 @@ use mathlib.Core.Bool.{true, cond}
 use mathlib.Core.List.{List, _++_, append-assoc}
 use lib.ListN.{length, length-append}
 use lib.Dec.{eqb}
-use Rattle.frame.specs.Header.{maxFrame}
+use Rattle.deframer.specs.Header.{maxFrame}
 use Rattle.decoder.specs.Rows.{rowsIn}
 use Rattle.writer.specs.Writing.{dataType, headerSize, fixedHeader, maxHeader}
 use Rattle.outgoing.specs.Items.{schemaNumber}
-use Rattle.field_writer.specs.Writing.{stored, writtenAt}
-use Rattle.field_writer.specs.declared.Written.{Written}
+use Rattle.wire_write.specs.Writing.{stored, writtenAt}
+use Rattle.wire_write.specs.declared.Written.{Written}
 use Rattle.writer.specs.Items.{sizesOf, messageWithin, putMessage, placeOf, Puts, RowsIn, messageIn, frameWith}
 use Rattle.outgoing.specs.declared.Content.{Content}
 use Rattle.writer.specs.declared.sizes.Sizes.{Sizes}

@@ -4,7 +4,7 @@ use mathlib.Core.Path.{_≡_, refl}
 use mathlib.Core.Bool.{Bool, true, false}
 use lib.Dec.{leb}
 use borrow.Author.Tests.{le-leb, lt-leb, leb-true, leb-false}
-use Rattle.frame.specs.Header.{maxFrame}
+use Rattle.deframer.specs.Header.{maxFrame}
 use Rattle.writer.specs.Writing.{sizeError}
 use Rattle.writer.specs.Items.{SizeOf}
 use borrow.Author.Needs.{needs}

@@ -3,7 +3,7 @@ use Prim.Native.Nat.{ℕ, _+_, _≤_}
 use mathlib.Core.Path.{_≡_}
 use mathlib.Core.List.{List, _++_}
 use lib.ListN.{length}
-use Rattle.field_writer.specs.Writing.{putTag, putVarint, putBytes}
+use Rattle.wire_write.specs.Writing.{putTag, putVarint, putBytes}
 use Rattle.decoder.specs.Rows.{Row}
 use Rattle.decoder.specs.Fields.{partOf}
 use Rattle.writer.specs.Encoding.{putEntry}

@@ -4,7 +4,7 @@ use mathlib.Core.Path.{_≡_, ap}
 use mathlib.Core.Bool.{true, _&&_}
 use mathlib.Core.List.{List, _++_}
 use lib.ListN.{length, getD}
-use Rattle.frame.proofs.Codes.{both}
+use Rattle.deframer.proofs.Codes.{both}
 use Rattle.decoder.specs.Rows.{Row}
 use Rattle.outgoing.specs.Items.{itemsOf, itemsWithin}
 use Rattle.writer.specs.Items.{Puts, putItems, putPart, putInit, itemsSize, initSizes, initWithin}

@@ -5,9 +5,9 @@ use mathlib.Core.Bool.{true}
 use mathlib.Core.List.{List, _++_}
 use lib.ListN.{length}
 use borrow.Author.Tests.{eq-eqb, ne-eqb}
-use Rattle.field_writer.specs.Writing.{putTag, putVarint}
+use Rattle.wire_write.specs.Writing.{putTag, putVarint}
 use Rattle.decoder.specs.Rows.{Row}
-use Rattle.validation.specs.Grounds.{rowsWithin}
+use Rattle.writer_checks.specs.Grounds.{rowsWithin}
 use Rattle.outgoing.specs.Items.{itemsOf, itemsWithin}
 use Rattle.writer.specs.Items.{Puts, putItems, putPart, itemsSize}
 use Rattle.writer.proofs.Lengths.{items-length}

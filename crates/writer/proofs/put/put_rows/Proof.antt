@@ -6,7 +6,7 @@ use Rattle.decoder.specs.Rows.{rowsIn}
 use Rattle.writer.specs.Encoding.{putRows}
 use Rattle.writer.specs.Items.{RowIn}
 use Rattle.writer.proofs.FieldLists.{row-fits, put-row, put-rows-all}
-use Rattle.validation.proofs.GroundLaws.{row-in}
+use Rattle.writer_checks.proofs.GroundLaws.{row-in}
 use Rattle.writer.proofs.Outputs.{Left, starts}
 use native.Mathlib.Omega.{arith}
 use Rattle.writer.proofs.put.put_rows.Statement.{statement}

@@ -3,8 +3,8 @@ use Prim.Native.Nat.{ℕ, _+_, _-_, _≤_}
 use mathlib.Core.Path.{_≡_, subst}
 use mathlib.Core.List.{List, _++_}
 use lib.ListN.{length, take, drop}
-use Rattle.field_writer.specs.Writing.{putTag, putVarint, putBytes, stored, writtenAt}
-use Rattle.field_writer.specs.declared.Written.{Written}
+use Rattle.wire_write.specs.Writing.{putTag, putVarint, putBytes, stored, writtenAt}
+use Rattle.wire_write.specs.declared.Written.{Written}
 use Rattle.decoder.specs.Fields.{partOf}
 use Rattle.writer.specs.Items.{Puts, placeOf}
 use Rattle.writer.proofs.Lengths.{part-length}

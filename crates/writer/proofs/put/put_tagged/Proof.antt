@@ -1,6 +1,6 @@
 -- The tag, and the varint after it.
 use mathlib.Core.List.{_++_}
-use Rattle.field_writer.specs.Writing.{putTag, putVarint}
+use Rattle.wire_write.specs.Writing.{putTag, putVarint}
 use Rattle.writer.proofs.Outputs.{starts, first-fits, steps, ends, wrote}
 use borrow.Author.Needs.{needs}
 use Rattle.writer.proofs.put.put_tagged.Statement.{statement}

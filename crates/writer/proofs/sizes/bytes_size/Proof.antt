@@ -1,5 +1,5 @@
 -- The tag, the length and the bytes.
-use Rattle.field_writer.proofs.Encoding.{varint-bounds}
+use Rattle.wire_write.proofs.Encoding.{varint-bounds}
 use borrow.Author.Needs.{needs}
 use native.Mathlib.Omega.{arith}
 use Rattle.writer.proofs.sizes.bytes_size.Statement.{statement}

@@ -2,8 +2,8 @@
 use Prim.Native.Nat.{ℕ}
 use mathlib.Core.Path.{_≡_, sym, ap, _∙_}
 use lib.ListN.{length, length-append}
-use Rattle.field_writer.specs.Writing.{putVarint, putTag}
-use Rattle.field_writer.proofs.Encoding.{varint-bounds}
+use Rattle.wire_write.specs.Writing.{putVarint, putTag}
+use Rattle.wire_write.proofs.Encoding.{varint-bounds}
 use Rattle.writer.specs.Encoding.{wide}
 use Rattle.writer.specs.Items.{integerOf}
 use Rattle.writer.proofs.LeftOut.{number-out, number-in}

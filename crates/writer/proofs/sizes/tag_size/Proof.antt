@@ -1,6 +1,6 @@
 -- A varint has at most ten bytes.
 use Prim.Native.Nat.{_+_, _*_}
-use Rattle.field_writer.proofs.Encoding.{varint-bounds}
+use Rattle.wire_write.proofs.Encoding.{varint-bounds}
 use borrow.Author.Needs.{needs}
 use native.Mathlib.Omega.{arith}
 use Rattle.writer.proofs.sizes.tag_size.Statement.{statement}

@@ -1,7 +1,7 @@
 -- By the type.
 use mathlib.Core.Path.{ap, _∙_}
 use mir.Facts.{toZ-ofZ}
-use Rattle.field_writer.specs.Writing.{signExtended}
+use Rattle.wire_write.specs.Writing.{signExtended}
 use Rattle.writer.specs.Encoding.{wide}
 use borrow.Author.Needs.{needs}
 use Rattle.writer.proofs.sizes.widened.Statement.{statement}

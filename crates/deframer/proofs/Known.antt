@@ -1,0 +1,77 @@
+-- Which states are known, and what a known state tells
+use Prim.Native.Nat.{ℕ, _≤_, _<_}
+use mathlib.Core.Path.{_≡_, refl, sym, _∙_}
+use mathlib.Core.Logic.{inl, inr}
+use mathlib.Core.Bool.{Bool, true, false, _&&_}
+use mathlib.Core.List.{List}
+use native.Mathlib.Omega.{arith}
+use native.Mathlib.Decide.{decLt, ℕ-discrete}
+use borrow.Author.Tests.{lt-ltb, le-ltb, le-leb, eq-eqb, ne-eqb, eqb-true, ltb-true}
+use lib.Dec.{eqb, ltb, leb}
+use lib.ListN.{length, take}
+use Rattle.deframer.specs.Header.{maxFrame, headerError, totalOf, faultOf}
+use Rattle.deframer.specs.Deframe.{knownOf}
+use Rattle.deframer.specs.declared.Deframer.{Deframer}
+use Rattle.deframer.proofs.Codes.{both, first-sixteen, good-total, Code, fault-code}
+
+module _ (st : Deframer) (d : List ℕ) where
+  -- ---- with no error code
+  module _ (none : st .error ≡ 0) where
+    pub known-short : st .held < 16 → knownOf st d ≡ true
+    unfolding knownOf
+    known-short h = simp (eq-eqb _ _ none, lt-ltb _ _ h)
+
+    pub known-total : 16 ≤ st .held → headerError (take 16 d) ≡ 0 → knownOf st d ≡ ltb (st .held) (totalOf (take 16 d))
+    unfolding knownOf
+    known-total h e = simp (eq-eqb _ _ none, le-ltb _ _ h, eq-eqb _ _ e)
+
+    pub unknown-header : 16 ≤ st .held → (headerError (take 16 d) ≡ 0 → ⊥) → knownOf st d ≡ false
+    unfolding knownOf
+    unknown-header h e = simp (eq-eqb _ _ none, le-ltb _ _ h, ne-eqb _ _ e)
+
+    pub known-good : knownOf st d ≡ true → 16 ≤ st .held → (headerError (take 16 d) ≡ 0) × (st .held < totalOf (take 16 d))
+    unfolding knownOf
+    known-good k h =
+        let a = both (eqb (headerError (take 16 d)) 0) (ltb (st .held) (totalOf (take 16 d))) (simp (eq-eqb _ _ none, le-ltb _ _ h) at k) in
+        (eqb-true _ _ (a .0), ltb-true _ _ (a .1))
+
+  -- ---- with one
+  module _ (some : st .error ≡ 0 → ⊥) where
+    pub unknown-held : (st .held ≡ 16 → ⊥) → knownOf st d ≡ false
+    unfolding knownOf
+    unknown-held h = simp (ne-eqb _ _ some, ne-eqb _ _ h)
+
+    pub known-bad : knownOf st d ≡ true → (st .held ≡ 16) × (headerError (take 16 d) ≡ st .error)
+    unfolding knownOf
+    known-bad k =
+        let a = both (eqb (st .held) 16) _ (simp (ne-eqb _ _ some) at k) in
+        let b = both (eqb (headerError (take 16 d)) (st .error)) _ (a .1) in
+        (eqb-true _ _ (a .0), eqb-true _ _ (b .0))
+
+    -- that the number is from 3 to 8 follows, since the 16 bytes give it
+    pub known-code : 16 ≤ length d → st .held ≡ 16 → knownOf st d ≡ eqb (headerError (take 16 d)) (st .error)
+    unfolding knownOf
+    known-code l h = simp (ne-eqb _ _ some, eq-eqb _ _ h) (by (eqb (headerError (take 16 d)) (st .error)) refl)
+      where
+        range : headerError (take 16 d) ≡ st .error → Code (faultOf (take 16 d)) → (3 ≤ st .error) × (st .error ≤ 8)
+        range e (inl z) = absurd (some (sym e ∙ first-sixteen d l ∙ z))
+        range e (inr r) =
+            let f : faultOf (take 16 d) ≡ st .error = sym (first-sixteen d l) ∙ e in
+            (omega arith, omega arith)
+
+        by : (b : Bool) → eqb (headerError (take 16 d)) (st .error) ≡ b → b && (leb 3 (st .error) && leb (st .error) 8) ≡ b
+        by true e =
+            let r = range (eqb-true _ _ e) (fault-code (take 16 d)) in
+            simp (le-leb _ _ (r .0), le-leb _ _ (r .1))
+        by false e = refl
+
+-- what a known state holds is in the buffer
+pub held-fits : (st : Deframer) (d : List ℕ) → maxFrame ≤ length d → knownOf st d ≡ true → st .held ≤ length d
+held-fits st d big known = go (ℕ-discrete (st .error) 0) (decLt (st .held) 16)
+  where
+    go : Dec (st .error ≡ 0) → Dec (st .held < 16) → st .held ≤ length d
+    go e (yes p) = omega arith
+    go (yes z) (no p) =
+        let g = known-good st d z known (omega arith) in
+        omega (arith, good-total (take 16 d) (g .0))
+    go (no n) (no p) = omega (arith, known-bad st d n known)

@@ -1,0 +1,93 @@
+-- Document 01, "Cutting": the deframer (document 01: cutter) and the end of a stream (document 01: end verdict).
+-- The bytes held and then the piece are the stream since the end of the last frame: all is said of that one list
+use Prim.Native.Nat.{ℕ, _-_}
+use mathlib.Core.List.{List, _++_}
+use mathlib.Core.Bool.{Bool, true, not, cond, _&&_}
+use lib.Dec.{eqb, ltb, leb}
+use lib.ListN.{length, take, drop}
+use Rattle.deframer.specs.Header.{headerError, totalOf, maxFrame}
+use Rattle.deframer.specs.declared.Deframer.{Deframer}
+use Rattle.deframer.specs.declared.Step.{Step}
+use Rattle.deframer.specs.declared.Progress.{Progress}
+use Rattle.deframer.specs.declared.Progress.the-variants.{Frame, NeedMore, Refused}
+use Rattle.deframer.specs.declared.End.{End}
+use Rattle.deframer.specs.declared.End.the-variants as end
+
+-- "Fresh means 0 and 0."
+abbrev pub fresh : Deframer
+fresh = record { held = 0; error = 0 }
+
+-- "A state is known if it holds under 16 bytes with number 0; or holds 16 or more with number 0, its first 16 judge good and their
+-- total exceeds the count; or holds exactly 16 that judge to its number, from 3 to 8."
+unfoldable pub knownOf : Deframer → List ℕ → Bool
+knownOf state buffer =
+    cond (eqb (state .error) 0)
+    (cond (ltb (state .held) 16) true
+    (eqb (headerError (take 16 buffer)) 0 && ltb (state .held) (totalOf (take 16 buffer))))
+    (eqb (state .held) 16 && (eqb (headerError (take 16 buffer)) (state .error) && (leb 3 (state .error) && leb (state .error) 8)))
+
+-- "behind those held": the stream that a call sees
+abbrev pub stream : ℕ → List ℕ → List ℕ → List ℕ
+stream held buffer piece = take held buffer ++ piece
+
+-- "The answer is one of three: a whole frame with its size, more is needed, or a refusal"; "The header is judged when its 16th byte
+-- arrives, never sooner."
+unfoldable pub nextFrame : List ℕ → Progress
+nextFrame s =
+    cond (ltb (length s) 16) NeedMore
+    (cond (eqb (headerError (take 16 s)) 0)
+    (cond (leb (totalOf (take 16 s)) (length s)) (Frame (totalOf (take 16 s))) NeedMore)
+    (Refused (headerError (take 16 s))))
+
+-- "It takes bytes .. until a frame is whole, a header is refused or the piece ends": how much of the stream is in the buffer then
+abbrev pub reach : Progress → List ℕ → ℕ
+reach (Frame size) s = size
+reach NeedMore s = length s
+reach (Refused code) s = 16
+
+-- "After a whole frame nothing is held"; "A refused header stays in the buffer with 16 held"
+abbrev pub nextState : Progress → List ℕ → Deframer
+nextState (Frame size) s = fresh
+nextState NeedMore s = record { held = length s; error = 0 }
+nextState (Refused code) s = record { held = 16; error = code }
+
+-- a call's answer, and the buffer after it
+pub record Out : Type 0 where
+  pub step : Step
+  pub buffer : List ℕ
+
+-- `held` bytes of the stream s were in the buffer. "Bytes of the buffer that received nothing are unchanged."
+-- A known state holds no more than the call reaches (`held-reached`), so the subtraction does not stop at 0.
+abbrev pub moved : Progress → ℕ → List ℕ → List ℕ → Out
+moved progress held buffer s =
+    record {
+      step = record { progress = progress; next = nextState progress s; taken = reach progress s - held };
+      buffer = take (reach progress s) s ++ drop (reach progress s) buffer;
+    }
+
+abbrev pub advance : ℕ → List ℕ → List ℕ → Out
+advance held buffer s = moved (nextFrame s) held buffer s
+
+-- "later calls repeat the number and take nothing"; "1 and 2 return the state as given and take nothing"
+abbrev pub refuse : ℕ → Deframer → Step
+refuse code state = record { progress = Refused code; next = state; taken = 0 }
+
+abbrev pub unmoved : ℕ → Deframer → List ℕ → Out
+unmoved code state buffer = record { step = refuse code state; buffer = buffer }
+
+-- "Cutter 1, 2, a held refusal, then 3 to 8 rising."
+unfoldable pub deframed : Deframer → List ℕ → List ℕ → Out
+deframed state buffer piece =
+    cond (ltb (length buffer) maxFrame) (unmoved 1 state buffer)
+    (cond (not (knownOf state buffer)) (unmoved 2 state buffer)
+    (cond (not (eqb (state .error) 0)) (unmoved (state .error) state buffer)
+    (advance (state .held) buffer (stream (state .held) buffer piece))))
+
+-- The codes in the same order. "The end verdict, asked with state and buffer, is clean (nothing held), short with the count held, or the refusal."
+unfoldable pub ended : Deframer → List ℕ → End
+ended state buffer =
+    cond (ltb (length buffer) maxFrame) (end.Refused 1)
+    (cond (not (knownOf state buffer)) (end.Refused 2)
+    (cond (not (eqb (state .error) 0)) (end.Refused (state .error))
+    (cond (eqb (state .held) 0) end.Clean
+    (end.Short (state .held)))))

@@ -1,4 +1,0 @@
--- What the contracts of `field_reader` cite: document 01, "Fields (Protobuf encoding)", "The field walk is a reader".
-pub mod Reader
-pub mod Walk
-pub mod Last

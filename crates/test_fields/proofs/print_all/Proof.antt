@@ -1,0 +1,30 @@
+-- `print_all` is safe and ends: its loop counts its turns down. The two buffers keep their lengths.
+use borrow.Author.Needs.{needs}
+use mathlib.Core.Path.{_≡_}
+use lib.ListN.{length}
+use Rattle.test_fields.proofs.print_all.Statement.{statement}
+use Rattle.test_fields.proofs.print_all.Tie as tie
+
+abbrev Inv-loop : tie.InvT-loop
+Inv-loop label₀ string₀ turns₀ label string turns = (length label ≡ length label₀) × (length string ≡ length string₀)
+
+abbrev μ-loop : tie.MeasureT-loop
+μ-loop label₀ string₀ turns₀ label string turns = turns
+
+pub print-all-spec : {M : Type 1} → statement M
+print-all-spec =
+    tie.close
+    (tie.spec
+    Inv-loop
+    μ-loop
+    (λ c. search needs)
+    (λ c κs. tt)
+    (λ c. search needs)
+    (λ c. search needs)
+    (λ c. search needs)
+    (λ c. search needs)
+    (λ c. search needs)
+    (λ c. tt)
+    (λ c. search needs)
+    (λ c. search needs)
+    (λ c. tt))

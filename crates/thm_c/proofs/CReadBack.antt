@@ -1,0 +1,198 @@
+-- For a user in C: demand 2.
+--
+-- Promised, of any call of a writer that returned 0, with numbers of 32 bits, and of a call of the reader of the same kind on the frame
+-- that it wrote, with at least 256 row numbers: if each gave what its contract ensures, the reader returned 0, and its numbers say the same
+-- record with the same bytes: kind, id, each number, each present mark, the length and the bytes of each byte field, the rows in their
+-- order, the header message, the body and the attachment.
+-- Not promised: that the starts are the same numbers (in the frame they count from its first byte), nor anything of an output that the
+-- caller changes between the calls.
+-- Ruled out: a writer that returns 0 and writes nothing, an int32 that comes back unsigned, and a length that passes the end of the frame.
+use Prim.Native.Nat.{ℕ, zero, suc, _<_, _≤_, _^_}
+use mathlib.Core.Path.{_≡_, refl, ap, sym, subst, _∙_}
+use mathlib.Core.Bool.{Bool, cond}
+use mathlib.Core.List.{List, [], _∷_}
+use native.Mathlib.Omega.{arith}
+use borrow.Author.Tests.{eqb-false}
+use lib.Dec.{eqb}
+use lib.ListN.{length, take, drop, getD}
+use Rattle.message.specs.Records.{recordOf, attachmentSizeOf}
+use Rattle.message.specs.Frames.{readFrame, lastBytes}
+use Rattle.message.specs.declared.Kind.{Kind}
+use Rattle.message.specs.declared.Kind.the-variants as kinds
+use Rattle.message.specs.declared.Record.{Record}
+use Rattle.message.specs.declared.Answer.{Answer}
+use Rattle.message.specs.declared.Answer.the-variants as answers
+use Rattle.outgoing.specs.Content.{kindOf, recordId, slotsOf}
+use Rattle.writer.specs.Writing.{Writing, refusedWith, wrote, frameOf, writeError, written, errorOf, countOf}
+use Rattle.writer.specs.declared.Encoded.{Encoded}
+use Rattle.writer.specs.declared.Encoded.the-variants.{Frame, Refused}
+use Rattle.bekurapi.specs.Answers.{answerError}
+use Rattle.bekurapi.specs.Numbers.{recordFrom}
+use Rattle.bekurapi.proofs.Back.{low, read-back}
+use Rattle.thm_round_trip.specs.Meaning.{allOf, Meaning, says, refused, meaning, answerMeaning, fieldsOf, InRange}
+use Rattle.thm_round_trip.specs.Statement.{ReadsBack}
+use Rattle.thm_round_trip.proofs.RoundTrip.{round-trip}
+use Rattle.thm_c.specs.Readings.{Read, Reads, CReading, wholeOf}
+use Rattle.thm_c.specs.RoundTrip.{Written, Writes, Words, CReadsBack}
+use Rattle.thm_c.proofs.Told.{choose}
+use Rattle.thm_c.proofs.CReading.{header-part, body-part, attachment-part}
+
+-- ---- the record of a kind from its numbers
+module _ (id : ℕ) (l : List ℕ) (rows : ℕ) where
+  kind-is : (k : Kind) → kindOf (recordOf k id l rows) ≡ k
+  unfolding recordOf kindOf
+  kind-is kinds.Request = refl
+  kind-is kinds.Response = refl
+  kind-is kinds.Init = refl
+  kind-is kinds.Data = refl
+  kind-is kinds.Feedback = refl
+  kind-is kinds.Close = refl
+
+  id-is : (k : Kind) → recordId (recordOf k id l rows) ≡ id
+  unfolding recordOf recordId
+  id-is kinds.Request = refl
+  id-is kinds.Response = refl
+  id-is kinds.Init = refl
+  id-is kinds.Data = refl
+  id-is kinds.Feedback = refl
+  id-is kinds.Close = refl
+
+  attachment-size-is : (k : Kind) → attachmentSizeOf (kindOf (recordOf k id l rows)) (slotsOf (recordOf k id l rows)) ≡ attachmentSizeOf k l
+  unfolding recordOf kindOf slotsOf attachmentSizeOf
+  attachment-size-is kinds.Request = refl
+  attachment-size-is kinds.Response = refl
+  attachment-size-is kinds.Init = refl
+  attachment-size-is kinds.Data = refl
+  attachment-size-is kinds.Feedback = refl
+  attachment-size-is kinds.Close = refl
+
+-- ---- numbers of 32 bits
+word-at : (l : List ℕ) → Words l → (i : ℕ) → getD l i 0 < 2 ^ 32
+word-at [] w i = omega arith
+word-at (n ∷ l) w zero = w .0
+word-at (n ∷ l) w (suc i) = word-at l (w .1) i
+
+words-drop : (n : ℕ) (l : List ℕ) → Words l → Words (drop n l)
+words-drop zero l w = w
+words-drop (suc n) [] w = tt
+words-drop (suc n) (x ∷ l) w = words-drop n l (w .1)
+
+in-range : (source : List ℕ) (k : Kind) (id : ℕ) (l : List ℕ) (rows : ℕ) → ((i : ℕ) → getD l i 0 < 2 ^ 32)
+    → InRange (fieldsOf source (recordOf k id l rows))
+unfolding recordOf fieldsOf
+in-range source kinds.Request id l rows w = (w 0, (w 1, (w 2, (w 3, (w 10, (w 11, (w 12, (w 13, tt))))))))
+in-range source kinds.Response id l rows w = (w 0, (w 1, (w 2, (low (getD l 3 0), (low (getD l 4 0), (w 7, (w 8, (w 9, (w 10, tt)))))))))
+in-range source kinds.Init id l rows w = (w 7, (low (getD l 9 0), (w 12, (w 13, (w 14, tt)))))
+in-range source kinds.Data id l rows w = tt
+in-range source kinds.Feedback id l rows w = (w 0, tt)
+in-range source kinds.Close id l rows w = (low (getD l 0 0), (low (getD l 1 0), (w 4, (low (getD l 5 0), tt))))
+
+-- ---- what 0 tells of a call of the writer
+abbrev Coded : Encoded → Type 0
+Coded (Frame size) = Unit {0}
+Coded (Refused code) = code ≡ 0 → ⊥
+
+abbrev CodedIn : Writing → Type 0
+CodedIn w = Coded (w .answer)
+
+framed : (a : Encoded) → Coded a → errorOf a ≡ 0 → a ≡ Frame (countOf a)
+unfolding errorOf countOf
+framed (Frame size) c e = refl
+framed (Refused code) c e = absurd (c e)
+
+coded-by : (r : Record) (source numbers body output : List ℕ) → Coded (written r source numbers body output .answer)
+coded-by r source numbers body output =
+    let error = writeError r source numbers body (length output) in
+    choose CodedIn (eqb error 0) (wrote (frameOf r source numbers body) output) (refusedWith error output) (λ e. tt)
+    (λ n. eqb-false error 0 n)
+
+-- ---- an answer that says something is a record
+abbrev Says : Meaning → Type 0
+Says (says k id fields rows) = Unit {0}
+Says (refused code) = ⊥
+
+is-read : (a : Answer) (source numbers : List ℕ) → Says (answerMeaning a source numbers) → (r : Record) × (a ≡ answers.Read r)
+unfolding answerMeaning
+is-read (answers.Read r) source numbers s = (r, refl)
+is-read (answers.Refused code) source numbers s = absurd s
+
+no-error : (r : Record) → answerError (answers.Read r) ≡ 0
+unfolding answerError
+no-error r = refl
+
+answered : (r : Record) (source numbers : List ℕ) → meaning r source numbers ≡ answerMeaning (answers.Read r) source numbers
+unfolding answerMeaning
+answered r source numbers = refl
+
+-- ---- what was written, read
+module _ (kind : Kind) (numbers source rows body out lent : List ℕ) (words : Words numbers) (long : 256 ≤ length lent) where
+  abbrev r : Record
+  r = recordFrom kind numbers
+
+  abbrev fields : List ℕ
+  fields = drop 8 numbers
+
+  abbrev id : ℕ
+  id = getD numbers 0 0
+
+  abbrev count : ℕ
+  count = getD numbers 1 0
+
+  small : recordId r < 2 ^ 32
+  small = subst (λ (n : ℕ). n < 2 ^ 32) (sym (id-is id fields count kind)) (word-at numbers words 0)
+
+  fields-small : InRange (fieldsOf source r)
+  fields-small = in-range source kind id fields count (word-at fields (words-drop 8 numbers words))
+
+  module _ (w : Written) (writes : Writes kind numbers source rows body out w) (done : w .code ≡ 0) where
+    answer-is : written r source rows body out .answer ≡ Frame (w .size)
+    answer-is =
+        framed (written r source rows body out .answer) (coded-by r source rows body out) (sym (writes .code-is) ∙ done)
+        ∙ ap Frame (sym (writes .size-is))
+
+    abbrev frame : List ℕ
+    frame = take (w .size) (w .out)
+
+    back : ReadsBack r source rows body frame lent
+    back =
+        subst (λ (o : List ℕ). ReadsBack r source rows body (take (w .size) o) lent) (sym (writes .output-is))
+        (round-trip r source rows body out lent (w .size) small fields-small long answer-is)
+
+    -- the reading as the record's own kind is that as the kind named
+    as-kind : {A : Type 0} (P : Kind → A) → P kind ≡ P (kindOf r)
+    as-kind P = ap P (sym (kind-is id fields count kind))
+
+    abbrev said-as : Kind → Meaning
+    said-as k = answerMeaning (readFrame k frame lent .answer) frame (readFrame k frame lent .rows)
+
+    again : (z : Record) × (readFrame kind frame lent .answer ≡ answers.Read z)
+    again =
+        is-read (readFrame kind frame lent .answer) frame (readFrame kind frame lent .rows)
+        (subst Says (sym (as-kind said-as ∙ back .same-record)) tt)
+
+    pub read-again : (x : Read) → Reads kind frame lent x → CReadsBack kind numbers source rows body frame x
+    read-again x reads =
+        record {
+          accepted = reads .code-is ∙ ap answerError (again .1) ∙ no-error (again .0);
+          same-record =
+              ap (λ (l : List ℕ). meaning (recordFrom kind l) frame (x .rows)) (reads .numbers-are)
+              ∙ ap (λ (z : Record). meaning z frame (x .rows)) (read-back kind frame lent (length frame) (again .0) (again .1))
+              ∙ answered (again .0) frame (x .rows)
+              ∙ ap (λ (a : Answer). answerMeaning a frame (x .rows)) (sym (again .1))
+              ∙ ap (λ (l : List ℕ). answerMeaning (readFrame kind frame lent .answer) frame l) (reads .rows-are)
+              ∙ as-kind said-as
+              ∙ back .same-record;
+          header-is = header-part kind frame lent x reads ∙ ap allOf (as-kind (λ k. readFrame k frame lent .header) ∙ back .header-is);
+          body-is = body-part kind frame lent x reads ∙ ap allOf (as-kind (λ k. readFrame k frame lent .body) ∙ back .body-is);
+          attachment-is =
+              attachment-part kind frame lent x reads
+              ∙ ap allOf (as-kind (λ k. readFrame k frame lent .attachment) ∙ back .attachment-is ∙ ap (λ (n : ℕ). lastBytes n body)
+              (attachment-size-is id fields count kind));
+        }
+
+pub c-read-back : (kind : Kind) (numbers source rows body out lent : List ℕ) (w : Written) (x : Read)
+    → Words numbers → 256 ≤ length lent → Writes kind numbers source rows body out w → w .code ≡ 0
+    → Reads kind (take (w .size) (w .out)) lent x
+    → CReadsBack kind numbers source rows body (take (w .size) (w .out)) x
+c-read-back kind numbers source rows body out lent w x words long writes done reads =
+    read-again kind numbers source rows body out lent words long w writes done x reads

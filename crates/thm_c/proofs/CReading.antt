@@ -1,0 +1,131 @@
+-- For a user in C: what a reader gave of a frame, as a record and as bytes.
+--
+-- Promised, of any call of a reader, for any kind, frame and row numbers: if it gave what its contract ensures, then the number returned
+-- and the 24 numbers together say the record that the frame has, or the error code (`says`); the three starts and lengths name header, body
+-- and attachment, each with its own length; and after a refusal all 24 are 0 (`zero`).
+-- Not promised: anything of a frame that the caller changes between the call and looking at its bytes.
+-- Ruled out: a record that is said with another kind's fields, a part of the right length at another place, a length that passes the end of
+-- the frame, and a refusal that leaves numbers of an earlier record.
+use Prim.Native.Nat.{ℕ, _+_, _-_}
+use mathlib.Core.Path.{_≡_, refl, ap, ap₂, sym, _∙_}
+use mathlib.Core.Bool.{cond, _&&_}
+use mathlib.Core.List.{List, []}
+use native.Mathlib.Omega.{arith}
+use borrow.Author.Tests.{eqb-false, eq-eqb, ne-eqb}
+use lib.Dec.{eqb, ltb, leb}
+use lib.ListN.{length, take, getD, replicate}
+use Rattle.deframer.specs.Header.{headerError, totalOf}
+use Rattle.decoder.specs.Rows.{rowNumbers}
+use Rattle.decoder.specs.Fields.{Result, ok, refused, readMessage}
+use Rattle.decoder.proofs.Results.{Sound, message-sound}
+use Rattle.message.specs.Records.{schemaOf, attachmentSizeOf}
+use Rattle.message.specs.Frames.{Reading, headerOf, bodyOf, kindFits, withAttachment, answered, readFrame}
+use Rattle.message.specs.Spans.{spanFrom, bytesAt, spansOf}
+use Rattle.message.specs.declared.Span.{Span}
+use Rattle.message.specs.declared.Kind.{Kind}
+use Rattle.message.specs.declared.Record.{Record}
+use Rattle.message.specs.declared.Answer.{Answer}
+use Rattle.message.specs.declared.Answer.the-variants as answers
+use Rattle.message.specs.declared.Located.{Located}
+use Rattle.message.proofs.SpansStand.{spans-stand}
+use Rattle.bekurapi.specs.Answers.{answerError}
+use Rattle.bekurapi.specs.Numbers.{answerId, answerRows, answerSlots, numbersOf, recordFrom}
+use Rattle.bekurapi.proofs.Back.{read-back}
+use Rattle.thm_round_trip.specs.Meaning.{Bytes, bytesFrom, allOf}
+use Rattle.thm_c.specs.Readings.{Read, Reads, partAt, CReading, saidBy, wholeOf, ReadOf}
+use Rattle.thm_c.proofs.Told.{choose}
+
+-- ---- a refusal has a number that is not 0, and no parts
+abbrev BareBy : Answer → Reading → Type 0
+BareBy (answers.Read r) x = Unit {0}
+BareBy (answers.Refused code) x = (code ≡ 0 → ⊥) × (x .header ≡ []) × (x .body ≡ []) × (x .attachment ≡ [])
+
+abbrev Bare : Reading → Type 0
+Bare x = BareBy (x .answer) x
+
+bare-result : (kind : Kind) (f lent : List ℕ) (x : Result) → Sound x → Bare (answered kind f lent x)
+unfolding answered withAttachment
+bare-result kind f lent (ok st) s =
+    choose Bare (leb (attachmentSizeOf kind (st .slots)) (length (bodyOf kind f))) _ _ (λ e. tt)
+    (λ e. (λ z. absurd (omega (arith, z)), refl, refl, refl))
+bare-result kind f lent (refused code) s = (λ z. absurd (omega (arith, s, z)), refl, refl, refl)
+
+bare : (kind : Kind) (f lent : List ℕ) → Bare (readFrame kind f lent)
+unfolding readFrame
+bare kind f lent =
+    choose Bare (ltb (length lent) rowNumbers) _ _ (λ e. (λ z. absurd (omega (arith, z)), refl, refl, refl))
+    (λ e. choose Bare (ltb (length f) 16) _ _ (λ e. (λ z. absurd (omega (arith, z)), refl, refl, refl))
+    (λ e. choose Bare (eqb (headerError (take 16 f)) 0) _ _
+    (λ e. choose Bare (eqb (length f) (totalOf f) && kindFits kind (getD f 2 0) (getD f 3 0)) _ _
+    (λ e. bare-result kind f lent (readMessage f (schemaOf kind) 16 (headerOf kind f))
+    (message-sound f (schemaOf kind) 16 (headerOf kind f)))
+    (λ e. (λ z. absurd (omega (arith, z)), refl, refl, refl)))
+    (λ e. (eqb-false (headerError (take 16 f)) 0 e, refl, refl, refl))))
+
+-- ---- a part's span has the part's own length
+spans-all : (f l : List ℕ) (s : Span) → s .len ≡ length l → bytesAt f s ≡ l → bytesFrom f (s .start) (s .len) ≡ allOf l
+spans-all f l s size e =
+    let n : s .start + s .len - s .start ≡ s .len = omega arith in
+    ap₂ (λ (k : ℕ) (x : List ℕ). record { size = k; content = x }) size (rw n at e)
+
+-- ---- the numbers of a refusal
+zero-numbers : (l : Located) (code : ℕ) → l .answer ≡ answers.Refused code → l .header ≡ spanFrom 0 0 → l .body ≡ spanFrom 0 0
+    → l .attachment ≡ spanFrom 0 0
+    → numbersOf l ≡ replicate 24 0
+unfolding answerId answerRows answerSlots
+zero-numbers l code e h b a = rw (e, h, b, a) refl
+
+module _ (kind : Kind) (frame lent : List ℕ) where
+  abbrev given : Reading
+  given = readFrame kind frame lent
+
+  abbrev spans : Located
+  spans = spansOf given (length frame)
+
+  module _ (x : Read) (reads : Reads kind frame lent x) where
+    abbrev Answered : Answer → Type 0
+    Answered a = cond (eqb (x .code) 0) (answers.Read (recordFrom kind (x .numbers))) (answers.Refused (x .code)) ≡ a
+
+    answer-is : (a : Answer) → given .answer ≡ a → BareBy a given → Answered a
+    unfolding answerError
+    answer-is (answers.Read r) e b =
+        let done : x .code ≡ 0 = reads .code-is ∙ ap answerError e in
+        let said = ap (recordFrom kind) (reads .numbers-are) ∙ read-back kind frame lent (length frame) r e in
+        rw (eq-eqb (x .code) 0 done) (ap answers.Read said)
+    answer-is (answers.Refused code) e b =
+        let is : x .code ≡ code = reads .code-is ∙ ap answerError e in
+        rw (is, ne-eqb code 0 (b .0)) refl
+
+    zeros : (a : Answer) → given .answer ≡ a → BareBy a given → (x .code ≡ 0 → ⊥) → x .numbers ≡ replicate 24 0
+    unfolding answerError
+    zeros (answers.Read r) e b z = absurd (z (reads .code-is ∙ ap answerError e))
+    zeros (answers.Refused code) e b z =
+        reads .numbers-are
+        ∙ zero-numbers spans code e (rw (b .1) refl) (rw (b .2) refl) (rw (b .3) refl)
+
+    part : (place : ℕ) (l : List ℕ) (s : Span) → partAt frame (numbersOf spans) place ≡ bytesFrom frame (s .start) (s .len)
+        → s .len ≡ length l → bytesAt frame s ≡ l
+        → partAt frame (x .numbers) place ≡ allOf l
+    part place l s at size stands = ap (λ (ns : List ℕ). partAt frame ns place) (reads .numbers-are) ∙ at ∙ spans-all frame l s size stands
+
+    pub header-part : partAt frame (x .numbers) 2 ≡ allOf (given .header)
+    header-part = part 2 (given .header) (spans .header) refl refl (spans-stand frame kind lent .header-stands)
+
+    pub body-part : partAt frame (x .numbers) 4 ≡ allOf (given .body)
+    body-part = part 4 (given .body) (spans .body) refl refl (spans-stand frame kind lent .body-stands)
+
+    pub attachment-part : partAt frame (x .numbers) 6 ≡ allOf (given .attachment)
+    attachment-part = part 6 (given .attachment) (spans .attachment) refl refl (spans-stand frame kind lent .attachment-stands)
+
+    pub read-of : ReadOf kind frame lent x
+    read-of =
+        record {
+          numbers = reads;
+          says = whole (answer-is (given .answer) refl (bare kind frame lent)) header-part body-part attachment-part (reads .rows-are);
+          zero = zeros (given .answer) refl (bare kind frame lent);
+        }
+      where
+        whole : {a b : Answer} {h i c d t u : Bytes} {r s : List ℕ} → a ≡ b → h ≡ i → c ≡ d → t ≡ u → r ≡ s
+            → _≡_ {A = CReading} (record { answer = a; header = h; body = c; attachment = t; rows = r })
+            (record { answer = b; header = i; body = d; attachment = u; rows = s })
+        whole e f g h i = rw (e, f, g, h, i) refl

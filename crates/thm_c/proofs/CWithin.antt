@@ -1,0 +1,71 @@
+-- For a user in C: `len` bytes at `frame + start` may be read.
+--
+-- Promised, of any call of a reader, for any kind, frame and row numbers: if it gave what its contract ensures, then each start and length
+-- among its numbers, of header, body, attachment and byte fields, and each key and value of the rows that it counts lies within the frame,
+-- and an empty one is 0, 0. It holds whatever the call returned: after a refusal all of them are 0, 0.
+-- Not promised: which bytes are there (`read-of` says it), and anything of the row numbers past the rows that are counted.
+-- Ruled out: a length that passes the end of the frame, and an end given for a length.
+use Prim.Native.Nat.{ℕ}
+use mathlib.Core.Path.{_≡_, refl, ap, sym, subst, _∙_}
+use mathlib.Core.List.{List}
+use lib.ListN.{length}
+use Rattle.decoder.specs.Rows.{rowsIn}
+use Rattle.decoder.specs.Fields.{blank}
+use Rattle.message.specs.Records.{recordOf}
+use Rattle.message.specs.Frames.{Reading, readFrame}
+use Rattle.message.specs.Spans.{spansOf as located}
+use Rattle.message.specs.declared.Kind.{Kind}
+use Rattle.message.specs.declared.Record.{Record}
+use Rattle.message.specs.declared.Answer.{Answer}
+use Rattle.message.specs.declared.Answer.the-variants as answers
+use Rattle.message.specs.declared.Located.{Located}
+use Rattle.outgoing.specs.Content.{rowCount}
+use Rattle.bekurapi.specs.Numbers.{answerId, answerRows, answerSlots, numbersOf, recordFrom}
+use Rattle.bekurapi.proofs.Back.{read-back}
+use Rattle.thm_round_trip.specs.Refusals.{recordSpans}
+use Rattle.read_within.specs.Within.{RowLies, Each}
+use Rattle.read_within.specs.Statement.{SpanLies, ReadWithin, spansIn, countedIn}
+use Rattle.read_within.proofs.ReadWithin.{blank-lies, record-lies, count-is, read-within}
+use Rattle.thm_c.specs.Readings.{Read, Reads}
+use Rattle.thm_c.specs.Within.{locatedFrom}
+
+module _ (frame : List ℕ) (kind : Kind) where
+  -- what a record and its row numbers hand out
+  abbrev Handed : (rows : List ℕ) → Record → Type 0
+  Handed rows r = Each (SpanLies frame) (recordSpans r) × Each (RowLies (length frame)) (rowsIn (rowCount r) rows)
+
+  -- "A refused record .. is all zero"
+  zero-handed : (code : ℕ) (rows : List ℕ)
+      → Handed rows (recordOf kind (answerId (answers.Refused code)) (answerSlots (answers.Refused code))
+      (answerRows (answers.Refused code)))
+  unfolding answerId answerRows answerSlots rowsIn
+  zero-handed code rows =
+      (record-lies frame kind 0 (blank .slots) 0 (blank-lies frame kind), rw (count-is frame kind 0 (blank .slots) 0) tt)
+
+  module _ (lent : List ℕ) where
+    abbrev given : Reading
+    given = readFrame kind frame lent
+
+    abbrev gave : Located
+    gave = located given (length frame)
+
+    handed : (a : Answer) → given .answer ≡ a → Each (SpanLies frame) (spansIn a)
+        → Each (RowLies (length frame)) (rowsIn (countedIn a) (given .rows))
+        → Handed (given .rows) (recordFrom kind (numbersOf gave))
+    handed (answers.Read r) e fields rows = subst (Handed (given .rows)) (sym (read-back kind frame lent (length frame) r e)) (fields, rows)
+    handed (answers.Refused code) e fields rows =
+        subst (λ (a : Answer). Handed (given .rows) (recordOf kind (answerId a) (answerSlots a) (answerRows a))) (sym e)
+        (zero-handed code (given .rows))
+
+    numbers-within : ReadWithin frame (locatedFrom kind (numbersOf gave)) (given .rows)
+    numbers-within =
+        let all = read-within frame kind lent in
+        let own = handed (given .answer) refl (all .fields) (all .rows) in
+        record { fields = own .0; rows = own .1; header = all .header; body = all .body; attachment = all .attachment }
+
+pub c-read-within : (kind : Kind) (frame lent : List ℕ) (x : Read) → Reads kind frame lent x
+    → ReadWithin frame (locatedFrom kind (x .numbers)) (x .rows)
+c-read-within kind frame lent x reads =
+    subst (λ (l : List ℕ). ReadWithin frame (locatedFrom kind l) (x .rows)) (sym (reads .numbers-are))
+    (subst (ReadWithin frame (locatedFrom kind (numbersOf (located (readFrame kind frame lent) (length frame))))) (sym (reads .rows-are))
+    (numbers-within frame kind lent))

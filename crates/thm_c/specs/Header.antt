@@ -1,0 +1,43 @@
+-- What a caller in C sees of a call of `trpc_header_check` and of `trpc_header_parse`, where each gives what its contract ensures.
+-- The numbers are read as include/bekurapi.h says.
+use Prim.Native.Nat.{ℕ}
+use mathlib.Core.Path.{_≡_}
+use mathlib.Core.Bool.{cond}
+use mathlib.Core.List.{List}
+use lib.Dec.{eqb}
+use Rattle.deframer.specs.Header.{headerError}
+use Rattle.deframer.specs.declared.FrameType.{FrameType}
+use Rattle.deframer.specs.declared.FrameType.the-variants.{Unary, Init, Data, Feedback, Close}
+use Rattle.deframer.specs.declared.Parsed.{Parsed}
+use Rattle.deframer.specs.declared.Parsed.the-variants.{Good, Refused}
+use Rattle.bekurapi.specs.Answers.{ParsedAs}
+
+-- what C has after a call of `trpc_header_parse`: the number returned, and what is in the four that were lent
+pub record HeaderParsed : Type 0 where
+  pub code : ℕ
+  pub frame-type : ℕ
+  pub total : ℕ
+  pub header-size : ℕ
+  pub id : ℕ
+
+-- ---- the `ensures` of each function, of what a call of it gave
+
+-- `trpc_header_check` only returns a number
+abbrev pub Checks : (bytes : List ℕ) (code : ℕ) → Type 0
+Checks bytes code = code ≡ headerError bytes
+
+abbrev pub Parses : (bytes : List ℕ) → HeaderParsed → Type 0
+Parses bytes x = ParsedAs bytes (x .code) (x .frame-type) (x .total) (x .header-size) (x .id)
+
+-- ---- what the numbers say
+
+-- "0 unary", and "1 Init, 2 Data, 3 Feedback, 4 Close"
+abbrev pub typeFrom : ℕ → FrameType
+typeFrom n = cond (eqb n 0) Unary (cond (eqb n 1) Init (cond (eqb n 2) Data (cond (eqb n 3) Feedback Close)))
+
+-- the error code, or what the header says
+abbrev pub headerFrom : HeaderParsed → Parsed
+headerFrom x =
+    cond (eqb (x .code) 0)
+    (Good (record { «frame_type» = typeFrom (x .frame-type); total = x .total; «header_size» = x .header-size; id = x .id }))
+    (Refused (x .code))

@@ -1,0 +1,118 @@
+-- The frame of an accepted record, read as its kind: the header is good, the message is read back, and the parts are the message and the
+-- body
+use Prim.Native.Nat.{ℕ, _+_, _^_, _<_, _≤_}
+use mathlib.Core.Path.{_≡_, refl, sym, ap, ap₂, _∙_}
+use mathlib.Core.List.{List}
+use native.Mathlib.Omega.{arith}
+use lib.ListN.{length}
+use Rattle.decoder.specs.Fields.{State, ok, readMessage}
+use Rattle.decoder.specs.Rows.{rowsIn, laidOut}
+use Rattle.message.specs.Records.{schemaOf, recordOf, attachmentSizeOf}
+use Rattle.message.specs.Frames.{Reading, headerOf, bodyOf, lastBytes, withAttachment, answered, readFrame}
+use Rattle.message.specs.Parts.{Whole}
+use Rattle.message.specs.declared.Kind.{Kind}
+use Rattle.message.specs.declared.Record.{Record}
+use Rattle.message.specs.declared.Answer.the-variants.{Read}
+use Rattle.decoder.proofs.RowLaws.{rowsIn-flat, laid-split, length-rowsIn}
+use Rattle.message.proofs.Readings.{its-message}
+use Rattle.outgoing.specs.Content.{kindOf, recordId, rowCount, slotsOf}
+use Rattle.writer.specs.Writing.{headerSize, fixedHeader, rowsOf, messageOf, frameOf}
+use Rattle.thm_round_trip.specs.Meaning.{Said, fieldsOf, Pair, pairsOf, InRange, says}
+use Rattle.thm_round_trip.specs.Statement.{ReadsBack}
+use Rattle.thm_round_trip.proofs.Said.{MessageBack}
+use Rattle.thm_round_trip.proofs.Formed.{well-formed}
+use Rattle.thm_round_trip.proofs.MessageRead.{message-back}
+use Rattle.thm_round_trip.proofs.FrameBack.{frame-length, behind-header, frame-whole, parts-back}
+use Rattle.thm_round_trip.proofs.RecordBack.{record-said, read-says, attachment-back}
+use Rattle.thm_round_trip.proofs.Accepted.{Accepted, rows-kept, attachment-fits}
+
+-- the reading of a state whose attachment fits the body
+abbrev given : Kind → (frame lent : List ℕ) (id : ℕ) (message body : List ℕ) (attachment : ℕ) → State → Reading
+given kind frame lent id message body attachment st =
+    record {
+      answer = Read (recordOf kind id (st .slots) (length (st .rows)));
+      header = message;
+      body = body;
+      attachment = lastBytes attachment body;
+      rows = laidOut (st .rows) lent;
+    }
+
+module _ (r : Record) (source numbers body lent : List ℕ) (id-small : recordId r < 2 ^ 32) (in-range : InRange (fieldsOf source r))
+    (long : 256 ≤ length lent)
+    (is : Accepted r source numbers body) where
+  abbrev kind : Kind
+  kind = kindOf r
+
+  abbrev frame : List ℕ
+  frame = frameOf r source numbers body
+
+  abbrev message : List ℕ
+  message = messageOf r source numbers
+
+  frame-size : length frame ≡ 16 + length message + length body
+  unfolding frameOf
+  frame-size = frame-length kind (recordId r) message body
+
+  whole : Whole kind frame (headerSize kind message) (recordId r)
+  unfolding frameOf
+  whole = frame-whole kind (recordId r) message body (omega (arith, frame-size, is .small)) id-small
+
+  parts : (headerOf kind frame ≡ message) × (bodyOf kind frame ≡ body)
+  unfolding frameOf
+  parts =
+      parts-back source (rowsOf r numbers) (slotsOf r) body frame kind (behind-header kind (recordId r) message body) (sym (whole .size-is))
+      (is .content .body-ok)
+
+  -- the message is read back
+  back : (st : State) × (readMessage frame (schemaOf kind) 16 message ≡ ok st) × MessageBack frame source (rowsOf r numbers) (schemaOf kind)
+      (slotsOf r) st
+  unfolding frameOf fixedHeader
+  back =
+      let header = fixedHeader kind (16 + length message + length body) (headerSize kind message) (recordId r) in
+      message-back frame source header body (rowsOf r numbers) (schemaOf kind) (slotsOf r) refl (well-formed kind)
+      (rw (record-said source r in-range) in-range)
+      (rw (length-rowsIn (rowCount r) numbers) (is .content .few))
+      (is .content .spans-within) (is .content .rows-within) (is .content .keys-differ) (is .content .absent-ok)
+      (omega (arith, frame-size, is .small))
+
+  st : State
+  st = back .0
+
+  said : MessageBack frame source (rowsOf r numbers) (schemaOf kind) (slotsOf r) st
+  unfolding st
+  said = back .2
+
+  abbrev attachment : ℕ
+  attachment = attachmentSizeOf kind (slotsOf r)
+
+  attachment-is : attachmentSizeOf kind (st .slots) ≡ attachment
+  attachment-is = attachment-back kind frame (st .slots) source (slotsOf r) (said .fields-are)
+
+  finished-is : withAttachment kind frame lent st ≡ given kind frame lent (recordId r) message body attachment st
+  unfolding withAttachment
+  finished-is =
+      rw (attachment-is, parts .0, parts .1, attachment-fits kind (slotsOf r) (length body) (is .content .body-ok), ← (whole .id-is))
+
+  reading-is : readFrame kind frame lent ≡ given kind frame lent (recordId r) message body attachment st
+  unfolding st answered
+  reading-is =
+      its-message kind frame lent long (omega (arith, frame-size)) (whole .good) (whole .total-is) (whole .fits)
+      ∙ rw (parts .0, back .1) finished-is
+
+  rows-are : pairsOf frame (rowsIn (length (st .rows)) (laidOut (st .rows) lent)) ≡ pairsOf source (rowsOf r numbers)
+  rows-are =
+      rw (laid-split (st .rows) lent, rowsIn-flat (st .rows) _)
+      (said .rows-are ∙ ap (pairsOf source) (rows-kept kind (rowCount r) numbers (is .content .allowed)))
+
+  pub reads-back : ReadsBack r source numbers body frame lent
+  reads-back =
+      record {
+        same-record =
+            rw reading-is
+            (read-says kind frame (recordId r) (st .slots) (length (st .rows)) (laidOut (st .rows) lent)
+            ∙ ap₂ (λ (x : List Said) (y : List Pair). says kind (recordId r) x y)
+            (said .fields-are ∙ record-said source r in-range) rows-are);
+        header-is = ap (λ (x : Reading). x .header) reading-is;
+        body-is = ap (λ (x : Reading). x .body) reading-is;
+        attachment-is = ap (λ (x : Reading). x .attachment) reading-is;
+      }

@@ -1,0 +1,28 @@
+-- Demand 2 of the functions themselves: what a caller sees of a call of `write`, and of a call of `read` on the frame that it wrote.
+use Prim.Native.Nat.{ℕ}
+use mathlib.Core.Path.{_≡_}
+use mathlib.Core.List.{List}
+use lib.ListN.{take}
+use mir.Val.{Val}
+use denote.Laws.{Is}
+use Rattle.message.proofs.Record as declared
+use Rattle.message.specs.Frames.{Reading}
+use Rattle.message.specs.declared.Record.{Record}
+use Rattle.writer.specs.Writing.{Writing, written}
+use Rattle.thm_round_trip.specs.Statement.{readingOf, ReadsBack}
+
+-- the `ensures` of `write`, of what a call of it gave; that of `read` is `Reads` (crate `thm_stream`)
+abbrev pub Writes : Record → (source numbers body output : List ℕ) → Writing → Type 0
+Writes r source numbers body output w =
+    (w .answer ≡ written r source numbers body output .answer) × (w .output ≡ written r source numbers body output .output)
+
+-- A record that a program passes to `write`: it has a machine value, as its declared types lay it out. Every record that a program can make
+-- has one; a number past its 32 bits has none.
+pub record Held (r : Record) : Type 0 where
+  pub value : List Val
+  pub is : Is declared.the-row r value
+
+-- `write` left a frame of that size in `output`, and `read` gave x of it
+pub record CalledBack (r : Record) (source numbers body output lent : List ℕ) (size : ℕ) (x : Reading) : Type 0 where
+  pub reading-is : x ≡ readingOf r (take size output) lent
+  pub reads-back : ReadsBack r source numbers body (take size output) lent

@@ -1,0 +1,33 @@
+-- int32 as two's complement: the low 32 bits of a varint in the terms of the machine's signed operations.
+use Prim.Native.Nat.{ℕ, zero, suc, _-_, _^_, _<_, _≤_}
+use mathlib.Core.Path.{_≡_, refl, ap, _∙_}
+use lib.IntN.{pos, negsuc, _-ℤ_}
+use native.Mathlib.Omega.{arith}
+use native.Mathlib.Nat.{zero-add}
+use borrow.Author.Tests.{lt-ltb, le-ltb}
+use mir.Syntax.{w32}
+use mir.Val.{SFits, toZ, ofZ}
+use mir.ValLaws.{toZ-pos, toZ-ofZ}
+use Rattle.wire_read.specs.Varint.{twosComplement}
+
+-- -1 - k
+from-minus-one : (k : ℕ) → negsuc 0 -ℤ pos k ≡ negsuc k
+from-minus-one zero = refl
+from-minus-one (suc k) = ap (λ (x : ℕ). negsuc (suc x)) (zero-add k)
+
+-- `low_i32`, where the top bit is clear
+pub low-half : (n : ℕ) → n < 2147483648 → toZ w32 n ≡ twosComplement n
+unfolding twosComplement
+low-half n h = toZ-pos w32 n h ∙ rw (lt-ltb n (2 ^ 31) h)
+
+-- and where it is set
+module _ (n : ℕ) (h : 2147483648 ≤ n) where
+  high-negsuc : negsuc 0 -ℤ toZ w32 (4294967295 - n) ≡ negsuc (4294967295 - n)
+  high-negsuc = rw (toZ-pos w32 (4294967295 - n) (omega arith)) (from-minus-one (4294967295 - n))
+
+  pub high-fits : SFits w32 (negsuc 0 -ℤ toZ w32 (4294967295 - n))
+  high-fits = rw high-negsuc (record { sfits = omega arith })
+
+  pub high-half : toZ w32 (ofZ w32 (negsuc 0 -ℤ toZ w32 (4294967295 - n))) ≡ twosComplement n
+  unfolding twosComplement
+  high-half = toZ-ofZ w32 (negsuc 0 -ℤ toZ w32 (4294967295 - n)) high-fits ∙ rw (high-negsuc, le-ltb n (2 ^ 31) h)

@@ -1,0 +1,92 @@
+-- What is stored in an output: one thing behind another is both at once, and whether there is room.
+use Prim.Native.Nat.{ℕ, suc, _+_, _≤_, _<_}
+use mathlib.Core.Path.{_≡_, refl, sym, _∙_}
+use mathlib.Core.Bool.{Bool, true, false, cond}
+use mathlib.Core.List.{List, [], _∷_, _++_}
+use lib.ListN.{length, take, drop, length-append}
+use lib.Dec.{leb}
+use lib.Seq.{sets, sets-eq, length-sets}
+use native.Mathlib.Omega.{arith}
+use borrow.Author.Tests.{le-leb, lt-leb, leb-true}
+use Rattle.wire_write.specs.Writing.{goodTag, fits, outputShort, firstGround, answer, stored, writtenAt, tagStored, tagWritten}
+use Rattle.wire_write.specs.declared.Written.the-variants.{Next, Refused}
+
+-- byte by byte
+pub stored-sets : (out : List ℕ) (at : ℕ) (x : List ℕ) → at + length x ≤ length out → stored out at x ≡ sets out at x
+unfolding stored
+stored-sets out at x h = rw (le-leb (at + length x) (length out) h) (sym (sets-eq x out at h))
+
+pub length-stored : (out : List ℕ) (at : ℕ) (x : List ℕ) → length (stored out at x) ≡ length out
+unfolding stored
+length-stored out at x = by (leb (at + length x) (length out)) refl
+  where
+    by : (b : Bool) → leb (at + length x) (length out) ≡ b
+        → length (cond b (take at out ++ x ++ drop (at + length x) out) out) ≡ length out
+    by true e = rw (sym (sets-eq x out at (leb-true (at + length x) (length out) e))) (length-sets out at x)
+    by false e = refl
+
+sets-then : (out : List ℕ) (at next : ℕ) (x y : List ℕ) → next ≡ at + length x → sets (sets out at x) next y ≡ sets out at (x ++ y)
+sets-then out at next [] y e = let z : next ≡ at = omega arith in rw z
+sets-then out at next (b ∷ x) y e = sets-then _ (suc at) next x y (omega arith)
+
+pub stored-then : (out : List ℕ) (at : ℕ) (x y : List ℕ) → at + length x + length y ≤ length out
+    → stored (stored out at x) (at + length x) y ≡ stored out at (x ++ y)
+stored-then out at x y h =
+    let first : at + length x ≤ length out = omega arith in
+    let all : at + length (x ++ y) ≤ length out = omega (arith, length-append x y) in
+    stored-sets (stored out at x) (at + length x) y (omega (arith, length-stored out at x))
+    ∙ rw (stored-sets out at x first, stored-sets out at (x ++ y) all) (sets-then out at (at + length x) x y refl)
+
+-- there is room, or not
+module _ (out : List ℕ) (at : ℕ) (x : List ℕ) where
+  pub written : at + length x ≤ length out → (next : ℕ) → next ≡ at + length x → Next next ≡ writtenAt out at x
+  unfolding writtenAt
+  written h next e = rw (le-leb (at + length x) (length out) h, e)
+
+  pub full : length out < at + length x → (Refused outputShort ≡ writtenAt out at x) × (out ≡ stored out at x)
+  unfolding writtenAt stored
+  full h = (rw (lt-leb (at + length x) (length out) h), rw (lt-leb (at + length x) (length out) h))
+
+-- what starts with a tag
+module _ (n w : ℕ) (out : List ℕ) (at : ℕ) (x : List ℕ) (good room : Bool) (is-good : good ≡ goodTag n w) (is-room : room ≡ fits out at x)
+    (error : ℕ)
+    (is-error : error ≡ firstGround good room) where
+  no-ground : (g r : Bool) → firstGround g r ≡ 0 → (g ≡ true) × (r ≡ true)
+  no-ground true true e = (refl, refl)
+  no-ground true false e = let z : ⊥ = omega arith in absurd z
+  no-ground false r e = let z : ⊥ = omega arith in absurd z
+
+  -- there is a ground: its number is the answer, and nothing is stored
+  pub tag-refused : (error ≡ 0 → ⊥) → (Refused error ≡ tagWritten n w out at x) × (out ≡ tagStored n w out at x)
+  unfolding tagWritten tagStored stored
+  tag-refused some = by good room is-good is-room is-error
+    where
+      by : (g r : Bool) → g ≡ goodTag n w → r ≡ fits out at x → error ≡ firstGround g r
+          → (Refused error ≡ answer (firstGround (goodTag n w) (fits out at x)) (at + length x))
+          × (out ≡ cond (goodTag n w) (cond (fits out at x) (take at out ++ x ++ drop (at + length x) out) out) out)
+      by true true g r e = absurd (some e)
+      by true false g r e = rw (sym g, sym r, e) (refl, refl)
+      by false r g r′ e = rw (sym g, e) (refl, refl)
+
+  module _ (none : error ≡ 0) where
+    pub tag-good : goodTag n w ≡ true
+    tag-good = sym is-good ∙ no-ground good room (sym is-error ∙ none) .0
+
+    pub tag-fits : at + length x ≤ length out
+    tag-fits = leb-true (at + length x) (length out) (sym is-room ∙ no-ground good room (sym is-error ∙ none) .1)
+
+    -- there is none, and it is as without one
+    pub tag-written : tagWritten n w out at x ≡ writtenAt out at x
+    unfolding tagWritten writtenAt
+    tag-written = rw tag-good
+
+    pub tag-stored : tagStored n w out at x ≡ stored out at x
+    unfolding tagStored
+    tag-stored = rw tag-good
+
+-- A writer that answers the next place found no ground, and the place is the one after what it wrote.
+pub accepted : (good room : Bool) (place next : ℕ) → answer (firstGround good room) place ≡ Next next
+    → (good ≡ true) × (room ≡ true) × (place ≡ next)
+accepted true true place next e = (refl, refl, cc)
+accepted true false place next e = let z : _≡_ {A = ℕ} 0 1 = cc in let a : ⊥ = omega arith in absurd a
+accepted false room place next e = let z : _≡_ {A = ℕ} 0 1 = cc in let a : ⊥ = omega arith in absurd a
