@@ -3,13 +3,13 @@
 use Prim.Native.Nat.{ℕ}
 use mathlib.Core.Path.{_≡_}
 use mathlib.Core.List.{List}
-use Rattle.deframer.specs.Header.{parsed}
+use Rattle.fixed_header.specs.Header.{parsed}
 use Rattle.deframer.specs.Deframe.{Out, deframed}
-use Rattle.deframer.specs.declared.FrameType.{FrameType}
-use Rattle.deframer.specs.declared.FrameType.the-variants as types
-use Rattle.deframer.specs.declared.FixedHeader.{FixedHeader}
-use Rattle.deframer.specs.declared.Parsed.{Parsed}
-use Rattle.deframer.specs.declared.Parsed.the-variants as headers
+use Rattle.fixed_header.specs.declared.FrameType.{FrameType}
+use Rattle.fixed_header.specs.declared.FrameType.the-variants as types
+use Rattle.fixed_header.specs.declared.FixedHeader.{FixedHeader}
+use Rattle.fixed_header.specs.declared.Parsed.{Parsed}
+use Rattle.fixed_header.specs.declared.Parsed.the-variants as headers
 use Rattle.deframer.specs.declared.Deframer.{Deframer}
 use Rattle.deframer.specs.declared.Progress.{Progress}
 use Rattle.deframer.specs.declared.Progress.the-variants.{Frame, NeedMore, Refused}
@@ -19,7 +19,7 @@ use Rattle.message.specs.declared.Answer.{Answer}
 use Rattle.message.specs.declared.Answer.the-variants as answers
 
 -- "data type | 0 unary, 1 stream"; "stream type | 1 Init, 2 Data, 3 Feedback, 4 Close": the stream type, and 0 for unary
-unfoldable pub typeNumber : FrameType → ℕ
+abbrev pub typeNumber : FrameType → ℕ
 typeNumber types.Unary = 0
 typeNumber types.Init = 1
 typeNumber types.Data = 2
@@ -27,38 +27,38 @@ typeNumber types.Feedback = 3
 typeNumber types.Close = 4
 
 -- A header says type, sizes and id, or it is refused.
-unfoldable pub parsedError : Parsed → ℕ
+abbrev pub parsedError : Parsed → ℕ
 parsedError (headers.Good h) = 0
 parsedError (headers.Refused code) = code
 
 -- what a good one says; of a refused one all is zero
-unfoldable pub headerIn : Parsed → FixedHeader
-headerIn (headers.Good h) = h
-headerIn (headers.Refused code) = record { «frame_type» = types.Unary; total = 0; «header_size» = 0; id = 0 }
+abbrev pub headerGiven : Parsed → FixedHeader
+headerGiven (headers.Good h) = h
+headerGiven (headers.Refused code) = record { «frame_type» = types.Unary; total = 0; «header_size» = 0; id = 0 }
 
 -- so a call of `trpc_header_parse` gave the number that is returned and the four that it hands out
 pub record ParsedAs (bytes : List ℕ) (code frame-type total header-size id : ℕ) : Type 0 where
   pub code-is : code ≡ parsedError (parsed bytes)
-  pub type-is : frame-type ≡ typeNumber (headerIn (parsed bytes) .«frame_type»)
-  pub total-is : total ≡ headerIn (parsed bytes) .total
-  pub header-size-is : header-size ≡ headerIn (parsed bytes) .«header_size»
-  pub id-is : id ≡ headerIn (parsed bytes) .id
+  pub type-is : frame-type ≡ typeNumber (headerGiven (parsed bytes) .«frame_type»)
+  pub total-is : total ≡ headerGiven (parsed bytes) .total
+  pub header-size-is : header-size ≡ headerGiven (parsed bytes) .«header_size»
+  pub id-is : id ≡ headerGiven (parsed bytes) .id
 
 -- "The state is a count of held bytes and a refusal number (0 for none)."
-abbrev pub stateOf : (held error : ℕ) → Deframer
-stateOf held error = record { held = held; error = error }
+abbrev pub deframerOf : (held error : ℕ) → Deframer
+deframerOf held error = record { held = held; error = error }
 
 -- what a call of the deframer gives
 abbrev pub deframedFrom : (held error : ℕ) → (buffer piece : List ℕ) → Out
-deframedFrom held error buffer piece = deframed (stateOf held error) buffer piece
+deframedFrom held error buffer piece = deframed (deframerOf held error) buffer piece
 
 -- "The answer is one of three: a whole frame with its size, more is needed, or a refusal"
-unfoldable pub progressError : Progress → ℕ
+abbrev pub progressError : Progress → ℕ
 progressError (Frame size) = 0
 progressError NeedMore = 0
 progressError (Refused code) = code
 
-unfoldable pub progressSize : Progress → ℕ
+abbrev pub progressSize : Progress → ℕ
 progressSize (Frame size) = size
 progressSize NeedMore = 0
 progressSize (Refused code) = 0
@@ -68,22 +68,22 @@ progressSize (Refused code) = 0
 pub record DeframedAs (held error : ℕ) (buffer piece : List ℕ) (code held₁ error₁ : ℕ) (buffer₁ : List ℕ) (taken size : ℕ) : Type 0 where
   pub code-is : code ≡ progressError (deframedFrom held error buffer piece .step .progress)
   pub size-is : size ≡ progressSize (deframedFrom held error buffer piece .step .progress)
-  pub state-is : stateOf held₁ error₁ ≡ deframedFrom held error buffer piece .step .next
+  pub state-is : deframerOf held₁ error₁ ≡ deframedFrom held error buffer piece .step .next
   pub taken-is : taken ≡ deframedFrom held error buffer piece .step .taken
   pub buffer-is : buffer₁ ≡ deframedFrom held error buffer piece .buffer
 
 -- "The end verdict, asked with state and buffer, is clean (nothing held), short with the count held, or the refusal."
-unfoldable pub endError : End → ℕ
+abbrev pub endError : End → ℕ
 endError end.Clean = 0
 endError (end.Short count) = 0
 endError (end.Refused code) = code
 
-unfoldable pub endShort : End → ℕ
+abbrev pub endShort : End → ℕ
 endShort end.Clean = 0
 endShort (end.Short count) = count
 endShort (end.Refused code) = 0
 
 -- A reading is a record or the refusal.
-unfoldable pub answerError : Answer → ℕ
+abbrev pub answerError : Answer → ℕ
 answerError (answers.Read r) = 0
 answerError (answers.Refused code) = code

@@ -3,7 +3,7 @@ use Prim.Native.Nat.{ℕ}
 use mathlib.Core.Path.{_≡_}
 use mathlib.Core.List.{List}
 use lib.ListN.{length}
-use Rattle.message.specs.declared.Kind.{Kind}
+use Rattle.schema.specs.declared.Kind.{Kind}
 use Rattle.message.specs.Frames.{readFrame}
 use Rattle.message.specs.Spans.{spansOf}
 use Rattle.writer.specs.Writing.{Writing, written, errorOf, countOf}

@@ -1,14 +1,14 @@
 // Each answer that is an enum as numbers: the error code, 0 for none, and the value beside it.
 use deframer::End;
-use deframer::FixedHeader;
-use deframer::FrameType;
-use deframer::Parsed;
 use deframer::Progress;
+use fixed_header::FixedHeader;
+use fixed_header::FrameType;
+use fixed_header::Parsed;
 use message::Answer;
 use writer::Encoded;
 ghost use mathlib.Core.Path.{_≡_};
 ghost use Rattle.writer.specs.Writing.{errorOf, countOf};
-ghost use Rattle.bekurapi.specs.Answers.{typeNumber, parsedError, headerIn, progressError, progressSize};
+ghost use Rattle.bekurapi.specs.Answers.{typeNumber, parsedError, headerGiven, progressError, progressSize};
 ghost use Rattle.bekurapi.specs.Answers.{endError, endShort, answerError};
 
 // The stream type, and 0 for unary.
@@ -35,7 +35,7 @@ pub(crate) fn parsed_error(parsed: Parsed) -> u32
 
 // What a good header says; of a refused one all is zero.
 pub(crate) fn header_in(parsed: Parsed) -> FixedHeader
-    ensures { λ r. ⌜ r ≡ headerIn parsed ⌝ }
+    ensures { λ r. ⌜ r ≡ headerGiven parsed ⌝ }
 {
     match parsed {
         Parsed::Good(header) => header,

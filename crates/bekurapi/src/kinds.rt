@@ -4,8 +4,8 @@ use crate::answers::encoded_error;
 use crate::answers::encoded_size;
 use crate::numbers::numbers_of;
 use crate::numbers::record_from;
-use message::Kind;
 use message::read_spans;
+use schema::Kind;
 use writer::write;
 ghost use Rattle.bekurapi.specs.Kinds.{ReadAs, WrittenAs};
 

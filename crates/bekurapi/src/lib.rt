@@ -15,15 +15,15 @@ use answers::type_number;
 use deframer::Deframer;
 use deframer::deframe;
 use deframer::finish;
-use deframer::parse_header;
+use fixed_header::parse_header;
 use kinds::read_as;
 use kinds::write_as;
-use message::Kind;
+use schema::Kind;
 ghost use mathlib.Core.Path.{_≡_};
-ghost use Rattle.deframer.specs.Header.{headerError};
+ghost use Rattle.fixed_header.specs.Header.{headerError};
 ghost use Rattle.deframer.specs.Deframe.{ended};
-ghost use Rattle.message.specs.declared.Kind.the-variants as kinds;
-ghost use Rattle.bekurapi.specs.Answers.{ParsedAs, stateOf, DeframedAs, endError, endShort};
+ghost use Rattle.schema.specs.declared.Kind.the-variants as kinds;
+ghost use Rattle.bekurapi.specs.Answers.{ParsedAs, deframerOf, DeframedAs, endError, endShort};
 ghost use Rattle.bekurapi.specs.Kinds.{ReadAs, WrittenAs};
 
 // The error code of a fixed header: 0 where it is good, 9 where it is not 16 bytes, else 3 to 8.
@@ -31,7 +31,7 @@ ghost use Rattle.bekurapi.specs.Kinds.{ReadAs, WrittenAs};
 pub extern "C" fn trpc_header_check(bytes: &[u8]) -> u32
     ensures { λ r. ⌜ r ≡ headerError (now (bytes .entry)) ⌝ }
 {
-    deframer::trpc_header_check(bytes)
+    fixed_header::check_header(bytes)
 }
 
 // What a fixed header says. Answers its error code; where it is 0, `frame_type` is the stream type, or 0 for unary. All are 0
@@ -88,8 +88,8 @@ pub extern "C" fn trpc_deframe(
 // The end of the stream. Answers the error code; where it is 0, `short_by` is how many bytes of an unfinished frame are held.
 #[no_mangle]
 pub extern "C" fn trpc_finish(held: usize, error: u32, buffer: &[u8], short_by: &mut usize) -> u32
-    ensures { λ r. ⌜ (r ≡ endError (ended (stateOf held error) (now (buffer .entry))))
-        × (now («short_by» .exit) ≡ endShort (ended (stateOf held error) (now (buffer .entry)))) ⌝ }
+    ensures { λ r. ⌜ (r ≡ endError (ended (deframerOf held error) (now (buffer .entry))))
+        × (now («short_by» .exit) ≡ endShort (ended (deframerOf held error) (now (buffer .entry)))) ⌝ }
 {
     let end = finish(Deframer { held, error }, buffer);
     *short_by = end_short(end);

@@ -1,11 +1,11 @@
 // A record as 24 numbers.
 use message::Answer;
-use message::Kind;
 use message::Located;
-use message::Record;
-use message::records::record_of;
-use outgoing::Content;
-use outgoing::content_of;
+use records::Content;
+use records::Record;
+use records::content_of;
+use records::record_of;
+use schema::Kind;
 ghost use mathlib.Core.Path.{_≡_};
 ghost use mathlib.Core.List.{_++_};
 ghost use lib.ListN.{take, drop};

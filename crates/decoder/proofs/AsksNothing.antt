@@ -12,3 +12,6 @@ clear-rows M 𝓤 H A mem run κs a = (tt, refl)
 
 pub same-key : AsksNothing entry.same_key.signature (λ M. entry.same_key.spec)
 same-key M 𝓤 H A mem run κs a = (tt, refl)
+
+pub find-key : AsksNothing entry.find_key.signature (λ M. entry.find_key.spec)
+find-key M 𝓤 H A mem run κs a = (tt, refl)

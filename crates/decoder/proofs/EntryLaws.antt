@@ -6,16 +6,16 @@ use mathlib.Core.List.{List, [], _∷_}
 use lib.ListN.{length, take, replicate}
 use lib.Dec.{eqb}
 use native.Mathlib.Omega.{arith}
-use borrow.Author.Tests.{eqb-true}
-use Rattle.deframer.specs.Header.{maxFrame}
+use Rattle.fixed_header.specs.Header.{maxFrame}
 use Rattle.wire_read.specs.Part.{part}
 use Rattle.wire_read.specs.declared.Field.{Field}
 use Rattle.wire_read.specs.declared.Field.the-variants as fields
 use Rattle.wire_walk.specs.Reader.{stepAt}
 use Rattle.wire_walk.specs.declared.Step.{Step}
 use Rattle.wire_read.proofs.PartLaws.{part-length}
-use Rattle.decoder.specs.Schema.{entry}
-use Rattle.decoder.specs.Fields.{State, Result, ok, blank, startOf, Reader, someBytes, unknown, look, setSlot, setBytes, setNumber, withField, fieldsIn}
+use Rattle.schema.specs.Schema.{entry}
+use Rattle.decoder.specs.Fields.{State, Result, ok, blank, startOf, Reader, setSlot, setBytes, setNumber, withField, fieldsIn}
+use Rattle.schema.specs.Targets.{someBytes, unknown, look}
 use Rattle.decoder.specs.DecoderState.{withSpan}
 use Rattle.decoder.specs.declared.entry.MapEntry.{MapEntry}
 use Rattle.decoder.proofs.Walk.{Walk, walk-varint, bytes-bounds, bytes-taken}
@@ -46,29 +46,6 @@ entry-number n v st = by (eqb 1 n) (eqb 2 n)
     by false true = refl
     by false false = refl
 
--- the key stays within the frame
-start-in : (start size most : ℕ) → start + size ≤ most → startOf start size + size ≤ most
-start-in start size most h = by (eqb size 0) refl
-  where
-    by : (b : Bool) → eqb size 0 ≡ b → cond b 0 start + size ≤ most
-    by true e = omega (arith, eqb-true size 0 e)
-    by false e = h
-
-span-key : (n start size most : ℕ) (e : MapEntry) → start + size ≤ most → e .key + e .«key_size» ≤ most
-    → withSpan n start size e .key + withSpan n start size e .«key_size» ≤ most
-unfolding withSpan
-span-key n start size most e h k = by (eqb 1 n) (eqb 2 n)
-  where
-    by : (a b : Bool) → cond a
-        (record { key = startOf start size; «key_size» = size; value = e .value; «value_size» = e .«value_size» })
-        (cond b (record { key = e .key; «key_size» = e .«key_size»; value = startOf start size; «value_size» = size }) e) .key
-        + cond a
-        (record { key = startOf start size; «key_size» = size; value = e .value; «value_size» = e .«value_size» })
-        (cond b (record { key = e .key; «key_size» = e .«key_size»; value = startOf start size; «value_size» = size }) e) .«key_size» ≤ most
-    by true b = start-in start size most h
-    by false true = k
-    by false false = k
-
 -- ---- the loop of `read_entry`
 
 abbrev pub readEntry : (frame : List ℕ) (at end : ℕ) → Result
@@ -76,12 +53,11 @@ readEntry frame at end = fieldsIn (end - at) frame entry 0 at (part frame at end
 
 pub record ReadingEntry (frame : List ℕ) (at end i : ℕ) (e : MapEntry) : Type 0 where
   pub walk : Walk frame entry 0 (readEntry frame at end) end i (entryState e)
-  pub key : e .key + e .«key_size» ≤ length frame
   pub small : length frame ≤ maxFrame
 
 pub entry-start : (frame : List ℕ) (at end : ℕ) → at ≤ end → end ≤ length frame → length frame ≤ maxFrame
     → ReadingEntry frame at end at (record { key = 0; «key_size» = 0; value = 0; «value_size» = 0 })
-entry-start frame at end h k l = record { walk = record { to = h; long = k; rest = refl }; key = omega arith; small = l }
+entry-start frame at end h k l = record { walk = record { to = h; long = k; rest = refl }; small = l }
 
 module _ (frame : List ℕ) (at end i : ℕ) (e : MapEntry) (w : ReadingEntry frame at end i e)
     (s : Step) (is-s : s ≡ stepAt (take end frame) i) where
@@ -90,7 +66,6 @@ module _ (frame : List ℕ) (at end i : ℕ) (e : MapEntry) (w : ReadingEntry fr
       record {
         walk = subst (Walk frame entry 0 (readEntry frame at end) end (s .at)) (entry-number n v (entryState e))
             (walk-varint frame entry 0 (readEntry frame at end) end i (entryState e) (w .walk) s is-s n v next q);
-        key = w .key;
         small = w .small;
       }
 
@@ -103,7 +78,7 @@ module _ (frame : List ℕ) (at end i : ℕ) (e : MapEntry) (w : ReadingEntry fr
       rw is-r
       (record {
         walk = bytes-taken frame entry 0 (readEntry frame at end) end i (entryState e) (w .walk) s is-s n start size q
-            (entryState (withSpan n start size e)) (entry-taken frame (fieldsIn size frame) start (part frame start (start + size)) e n size x);
-        key = span-key n start size (length frame) e (omega arith) (w .key);
+            (entryState (withSpan n start size e)) (entry-taken frame (fieldsIn size frame) start (part frame start (start + size)) e n
+            size x);
         small = w .small;
       })

@@ -1,5 +1,6 @@
--- A reading as the steps that it takes: what fields of a schema, whose first slot is i, made of a state. Every reading that is not refused is a sequence of
--- steps, so a property of every reading is an induction over them, and needs nothing of varints, tags or bytes that are skipped.
+-- A reading as the steps that it takes: what fields of a schema, whose first slot is i, made of a state. Every reading that is not
+-- refused is a sequence of steps, so a property of every reading is an induction over them, and needs nothing of varints, tags or bytes
+-- that are skipped.
 use Prim.Native.Nat.{ℕ, zero, suc, _+_, _<_, _≤_}
 use mathlib.Core.Path.{_≡_, refl, sym, subst}
 use mathlib.Core.Bool.{Bool, true, false}
@@ -8,21 +9,26 @@ use lib.ListN.{length, take, drop, length-take, length-drop}
 use lib.Dec.{ltb}
 use native.Mathlib.Omega.{arith}
 use borrow.Author.Tests.{ltb-true}
-use Rattle.wire_read.specs.Fields.{FieldResult, noField, varintField, fixed64Field, bytesField, groupField, fixed32Field, fieldError, nextField}
+use Rattle.wire_read.specs.Fields.{FieldResult, noField, varintField, fixed64Field, bytesField}
+use Rattle.wire_read.specs.Fields.{groupField, fixed32Field, fieldError, nextField}
 use Rattle.wire_read.proofs.Bounds.{FieldIn, nextField-in}
-use Rattle.decoder.specs.Schema.{Schema, entry}
-use Rattle.decoder.specs.Fields.{State, Result, ok, refused, blank, Reader, Target, aNumber, someBytes, anEntry, aMessage, unknown, look, setSlot, setBytes, setNumber, addEntry, withField, andThen, inside, oneField, fieldsIn, readMessage}
+use Rattle.schema.specs.Schema.{Schema, entry}
+use Rattle.decoder.specs.Fields.{State, Result, ok, refused, blank, Reader, setSlot, setBytes}
+use Rattle.decoder.specs.Fields.{setNumber, addEntry, withField, andThen, inside, oneField, fieldsIn, readMessage}
+use Rattle.schema.specs.Targets.{Target, aNumber, someBytes, anEntry, aMessage, unknown, look}
 
 pub data Steps (frame : List ℕ) : Schema → (i : ℕ) → (before after : State) → Type 0 where
   -- no field is left
   ends : {sch : Schema} {i : ℕ} {st : State} → Steps frame sch i st st
   -- a number in field n
-  takes-number : {sch : Schema} {i : ℕ} {st to : State} (n v : ℕ) → Steps frame sch i (setNumber (look sch i n) v st) to → Steps frame sch i st to
+  takes-number : {sch : Schema} {i : ℕ} {st to : State} (n v : ℕ) → Steps frame sch i (setNumber (look sch i n) v st) to
+      → Steps frame sch i st to
   -- bytes of the frame in field n
   takes-bytes : {sch : Schema} {i : ℕ} {st to : State} (n slot at size : ℕ) → look sch i n ≡ someBytes slot → at + size ≤ length frame
       → Steps frame sch i (setBytes slot at size st) to → Steps frame sch i st to
   -- a map entry
-  takes-entry : {sch : Schema} {i : ℕ} {st to : State} (n : ℕ) (e : State) → look sch i n ≡ anEntry → st .entries < 64 → Steps frame entry 0 blank e
+  takes-entry : {sch : Schema} {i : ℕ} {st to : State} (n : ℕ) (e : State) → look sch i n ≡ anEntry → st .entries < 64
+      → Steps frame entry 0 blank e
       → Steps frame sch i (addEntry frame e st) to → Steps frame sch i st to
   -- a message of its own, which starts at its present mark
   takes-message : {sch : Schema} {i : ℕ} {st to : State} (n slot : ℕ) (inner : Schema) (mid : State) → look sch i n ≡ aMessage slot inner
@@ -50,7 +56,8 @@ module _ (frame : List ℕ) where
       by (ok to) s = h to s
       by (refused code) s = tt
 
-  module _ (read : Reader) (q : (sch : Schema) (i at : ℕ) (s : List ℕ) (st : State) → at + length s ≤ length frame → Came sch i st (read sch i at s st)) where
+  module _ (read : Reader) (q : (sch : Schema) (i at : ℕ) (s : List ℕ) (st : State) → at + length s ≤ length frame
+      → Came sch i st (read sch i at s st)) where
     with-leads : (sch : Schema) (i n at : ℕ) (x : List ℕ) (st : State) (t : Target) → look sch i n ≡ t → at + length x ≤ length frame
         → Leads sch i st (withField frame read at x st t)
     unfolding withField
@@ -65,7 +72,8 @@ module _ (frame : List ℕ) where
         by (refused code) h = tt
     with-leads sch i n at x st anEntry e l = by (ltb (st .entries) 64) refl (read entry 0 at x blank) refl (q entry 0 at x blank l)
       where
-        by : (b : Bool) → ltb (st .entries) 64 ≡ b → (o : Result) → read entry 0 at x blank ≡ o → Came entry 0 blank (read entry 0 at x blank)
+        by : (b : Bool) → ltb (st .entries) 64 ≡ b → (o : Result) → read entry 0 at x blank ≡ o
+            → Came entry 0 blank (read entry 0 at x blank)
             → Leads sch i st (withField frame read at x st anEntry)
         by false f o p g = let z : withField frame read at x st anEntry ≡ refused 14 = cc in subst (Leads sch i st) (sym z) tt
         by true f (refused code) p g = let z : withField frame read at x st anEntry ≡ refused code = cc in subst (Leads sch i st) (sym z) tt
@@ -75,7 +83,8 @@ module _ (frame : List ℕ) where
             let room = ltb-true (st .entries) 64 f in
             subst (Leads sch i st) (sym z) (λ to later. takes-entry n s e room h later)
 
-    field-came : (sch : Schema) (i at : ℕ) (s : List ℕ) (st : State) → at + length s ≤ length frame → Came sch i st (oneField frame read sch i at s st)
+    field-came : (sch : Schema) (i at : ℕ) (s : List ℕ) (st : State) → at + length s ≤ length frame
+        → Came sch i st (oneField frame read sch i at s st)
     unfolding oneField inside
     field-came sch i at s st l = by (nextField s) refl (nextField-in s)
       where
@@ -95,15 +104,19 @@ module _ (frame : List ℕ) where
             (numbered n v used (read sch i (at + used) (drop used s) (setNumber (look sch i n) v st))
             (q sch i (at + used) (drop used s) (setNumber (look sch i n) v st) (omega (arith, length-drop used s))))
         by (fixed64Field n v used) e b =
-            let z : oneField frame read sch i at s st ≡ read sch i (at + used) (drop used s) st = cc in subst (Came sch i st) (sym z) (skipped used (b .1))
+            let z : oneField frame read sch i at s st
+            ≡ read sch i (at + used) (drop used s) st = cc in subst (Came sch i st) (sym z) (skipped used (b .1))
         by (groupField n used) e b =
-            let z : oneField frame read sch i at s st ≡ read sch i (at + used) (drop used s) st = cc in subst (Came sch i st) (sym z) (skipped used (b .1))
+            let z : oneField frame read sch i at s st
+            ≡ read sch i (at + used) (drop used s) st = cc in subst (Came sch i st) (sym z) (skipped used (b .1))
         by (fixed32Field n v used) e b =
-            let z : oneField frame read sch i at s st ≡ read sch i (at + used) (drop used s) st = cc in subst (Came sch i st) (sym z) (skipped used (b .1))
+            let z : oneField frame read sch i at s st
+            ≡ read sch i (at + used) (drop used s) st = cc in subst (Came sch i st) (sym z) (skipped used (b .1))
         by (bytesField n used size) e b =
             let x = take size (drop used s) in
             let rest = drop size (drop used s) in
-            let z : oneField frame read sch i at s st ≡ inside frame read sch i (at + used) (take size (drop used s)) (drop size (drop used s)) st (look sch i n) = cc in
+            let z : oneField frame read sch i at s st
+            ≡ inside frame read sch i (at + used) (take size (drop used s)) (drop size (drop used s)) st (look sch i n) = cc in
             let m = length-take size (drop used s) in
             let k = length-drop used s in
             let r = length-drop size (drop used s) in
@@ -123,5 +136,6 @@ module _ (frame : List ℕ) where
   unfolding readMessage
   message-came sch at s l = fields-came (length s) sch 0 at s blank l
 
-  pub reads-by-steps : (sch : Schema) (at : ℕ) (s : List ℕ) (st : State) → at + length s ≤ length frame → readMessage frame sch at s ≡ ok st → Steps frame sch 0 blank st
+  pub reads-by-steps : (sch : Schema) (at : ℕ) (s : List ℕ) (st : State) → at + length s ≤ length frame → readMessage frame sch at s
+      ≡ ok st → Steps frame sch 0 blank st
   reads-by-steps sch at s st l e = subst (Came sch 0 blank) e (message-came sch at s l)

@@ -1,15 +1,15 @@
 -- The row numbers as rows: what is laid out reads back, and how an entry is stored.
-use Prim.Native.Nat.{ℕ, zero, suc, _+_, _*_, _-_, _<_, _≤_}
+use Prim.Native.Nat.{ℕ, zero, suc, _+_, _*_, _-_, _/_, _<_, _≤_, min}
 use mathlib.Core.Path.{_≡_, refl, sym, ap, subst, _∙_}
 use mathlib.Core.Bool.{Bool, true, false, _&&_}
 use mathlib.Core.List.{List, [], _∷_, _++_, append-assoc}
 use lib.ListN.{length, take, drop, getD, set, replicate, length-append, length-drop, length-replicate}
-use lib.Seq.{drop-at, drop-cons, set-at, getD-drop}
+use lib.Seq.{drop-at, drop-cons, drop-drop, set-at, getD-drop}
 use lib.Dec.{eqb}
 use native.Mathlib.Omega.{arith}
 use native.Mathlib.Numerals.{add-one}
 use borrow.Author.Tests.{eq-eqb, eqb-true}
-use Rattle.decoder.specs.Rows.{Row, rowNumbers, flat, laidOut, rowsIn}
+use Rattle.decoder.specs.Rows.{Row, rowNumbers, flat, laidOut, rowsIn, rowsLent}
 use Rattle.decoder.specs.Fields.{State, partOf, sameBytes}
 use Rattle.decoder.specs.DecoderState.{stateOf, Holds}
 use Rattle.decoder.specs.declared.Slots.{Slots}
@@ -43,12 +43,17 @@ drop-laid rs lent h = drop-at (front rs) (drop 256 lent) 256 (length-front rs h)
 pub length-laid : (rs : List Row) (lent : List ℕ) → length rs ≤ 64 → 256 ≤ length lent → length (laidOut rs lent) ≡ length lent
 length-laid rs lent h k = length-append (front rs) (drop 256 lent) ∙ omega (arith, length-front rs h, length-drop 256 lent)
 
-pub laid-split : (rs : List Row) (lent : List ℕ) → laidOut rs lent ≡ flat rs ++ (replicate (rowNumbers - length (flat rs)) 0 ++ drop 256 lent)
+pub laid-split : (rs : List Row) (lent : List ℕ) → laidOut rs lent
+    ≡ flat rs ++ (replicate (rowNumbers - length (flat rs)) 0 ++ drop 256 lent)
 laid-split rs lent = append-assoc (flat rs) (replicate (rowNumbers - length (flat rs)) 0) (drop 256 lent)
+
+-- all rows are lent
+pub all-lent : (count : ℕ) (l : List ℕ) → count * 4 ≤ length l → rowsLent count l ≡ rowsIn count l
+all-lent count l h = let same : min count (length l / 4) ≡ count = omega arith in ap (λ (n : ℕ). rowsIn n l) same
 
 -- ---- a state that is held
 
-module _ (size : ℕ) (st : State) (slots : Slots) (numbers lent : List ℕ) (h : Holds size st slots numbers lent) where
+module _ (st : State) (slots : Slots) (numbers lent : List ℕ) (h : Holds st slots numbers lent) where
   pub state-is : stateOf slots numbers ≡ st
   state-is =
       let a = h .values-are in
@@ -70,7 +75,7 @@ module _ (size : ℕ) (st : State) (slots : Slots) (numbers lent : List ℕ) (h 
   same-long = rw (h .laid) (length-laid (st .rows) lent few-rows (h .long))
 
   -- the same numbers, lent anew
-  pub held : Holds size (stateOf slots numbers) slots numbers numbers
+  pub held : Holds (stateOf slots numbers) slots numbers numbers
   held =
       rw state-is
       (record {
@@ -80,15 +85,14 @@ module _ (size : ℕ) (st : State) (slots : Slots) (numbers lent : List ℕ) (h 
         entries-are = h .entries-are;
         few = h .few;
         counted = h .counted;
-        keys = h .keys;
         laid = rw past-same (h .laid);
         long = rw same-long (h .long);
       })
 
 -- what was lent with these numbers past the rows
-pub relent : (size : ℕ) (st : State) (slots : Slots) (numbers lent lent′ : List ℕ) → drop 256 lent ≡ drop 256 lent′ → 256 ≤ length lent′
-    → Holds size st slots numbers lent → Holds size st slots numbers lent′
-relent size st slots numbers lent lent′ e k h =
+pub relent : (st : State) (slots : Slots) (numbers lent lent′ : List ℕ) → drop 256 lent ≡ drop 256 lent′ → 256 ≤ length lent′
+    → Holds st slots numbers lent → Holds st slots numbers lent′
+relent st slots numbers lent lent′ e k h =
     record {
       values-are = h .values-are;
       values-long = h .values-long;
@@ -96,7 +100,6 @@ relent size st slots numbers lent lent′ e k h =
       entries-are = h .entries-are;
       few = h .few;
       counted = h .counted;
-      keys = h .keys;
       laid = rw (← e) (h .laid);
       long = k;
     }
@@ -148,6 +151,16 @@ rowAt (suc n) l (suc i) h =
     let d : suc i * 4 + 3 ≡ 4 + (i * 4 + 3) = omega arith in
     rowAt n (drop 4 l) i (omega arith)
     ∙ cc (getD-drop 4 l (i * 4) 0, getD-drop 4 l (i * 4 + 1) 0, getD-drop 4 l (i * 4 + 2) 0, getD-drop 4 l (i * 4 + 3) 0)
+
+-- the rows from number i on
+pub rows-from : (n i : ℕ) (l : List ℕ) → drop i (rowsIn n l) ≡ rowsIn (n - i) (drop (i * 4) l)
+unfolding rowsIn
+rows-from n zero l = let same : n ≡ n - 0 = omega arith in ap (λ (k : ℕ). rowsIn k l) same
+rows-from zero (suc i) l = let none : 0 - suc i ≡ 0 = omega arith in rw none
+rows-from (suc n) (suc i) l =
+    let left : suc n - suc i ≡ n - i = omega arith in
+    let four : suc i * 4 ≡ 4 + i * 4 = omega arith in
+    rows-from n i (drop 4 l) ∙ rw (left, four) (ap (rowsIn (n - i)) (drop-drop (i * 4) 4 l))
 
 -- ---- clearing
 

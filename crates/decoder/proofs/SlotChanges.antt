@@ -8,10 +8,11 @@ use lib.ListN.{length, getD, set, length-set}
 use lib.Seq.{getD-set-other}
 use lib.Dec.{eqb}
 use native.Mathlib.Omega.{arith}
-use Rattle.decoder.specs.Schema.{Schema, done, number, bytes, map, message, width}
-use Rattle.decoder.specs.Fields.{State, Target, aNumber, someBytes, anEntry, aMessage, unknown, look, setSlot, setBytes, setNumber, addEntry}
+use Rattle.laws.proofs.Booleans.{either}
+use Rattle.schema.specs.Schema.{Schema, done, number, bytes, map, message, width}
+use Rattle.decoder.specs.Fields.{State, setSlot, setBytes, setNumber, addEntry}
+use Rattle.schema.specs.Targets.{Target, aNumber, someBytes, anEntry, aMessage, unknown, look}
 use Rattle.wire_read.specs.Varint.{lowU32}
-use Rattle.wire_read.proofs.Bounds.{either}
 use Rattle.decoder.proofs.ReadingSteps.{Steps, ends, takes-number, takes-bytes, takes-entry, takes-message}
 
 -- ---- lists that agree but for some places
@@ -73,14 +74,17 @@ unfolding look width
 look-within done i n = tt
 look-within (number type m name more) i n =
     either (Within i (i + suc (width more))) (eqb m n) (omega arith, omega arith)
-    (within-wider (i + 1) (i + 1 + width more) i (i + suc (width more)) (look more (i + 1) n) (omega arith) (omega arith) (look-within more (i + 1) n))
+    (within-wider (i + 1) (i + 1 + width more) i (i + suc (width more)) (look more (i + 1) n) (omega arith) (omega arith)
+    (look-within more (i + 1) n))
 look-within (bytes m name more) i n =
     either (Within i (i + suc (suc (width more)))) (eqb m n) (omega arith, omega arith)
-    (within-wider (i + 2) (i + 2 + width more) i (i + suc (suc (width more))) (look more (i + 2) n) (omega arith) (omega arith) (look-within more (i + 2) n))
+    (within-wider (i + 2) (i + 2 + width more) i (i + suc (suc (width more))) (look more (i + 2) n) (omega arith) (omega arith)
+    (look-within more (i + 2) n))
 look-within (map m name more) i n = either (Within i (i + width more)) (eqb m n) tt (look-within more i n)
 look-within (message m name inner more) i n =
     either (Within i (i + suc (width inner + width more))) (eqb m n) (omega arith, omega arith)
-    (within-wider (i + 1 + width inner) (i + 1 + width inner + width more) i (i + suc (width inner + width more)) (look more (i + 1 + width inner) n)
+    (within-wider (i + 1 + width inner) (i + 1 + width inner + width more) i (i + suc (width inner + width more))
+    (look more (i + 1 + width inner) n)
     (omega arith) (omega arith) (look-within more (i + 1 + width inner) n))
 
 -- ---- one step
@@ -91,7 +95,8 @@ bytes-only slot at size st =
     let start = cond (eqb size 0) 0 at in
     only-then slot (slot + 2) a (set a slot start) (set (set a slot start) (slot + 1) size)
     (only-wider slot (slot + 1) slot (slot + 2) a (set a slot start) (omega arith) (omega arith) (only-set a slot start))
-    (only-wider (slot + 1) (slot + 1 + 1) slot (slot + 2) (set a slot start) (set (set a slot start) (slot + 1) size) (omega arith) (omega arith)
+    (only-wider (slot + 1) (slot + 1 + 1) slot (slot + 2) (set a slot start) (set (set a slot start) (slot + 1) size) (omega arith)
+    (omega arith)
     (only-set (set a slot start) (slot + 1) size))
 
 pub number-only : (t : Target) (v : ℕ) (st : State) → Only (low t) (high t) (st .slots) (setNumber t v st .slots)
@@ -113,7 +118,8 @@ only-field unknown lo hi a b w p = λ j o. p j (inr (omega arith))
 -- ---- a reading
 module _ (frame : List ℕ) where
   -- the slots from the mark of a message on
-  pub message-only : (slot : ℕ) (inner : Schema) (st mid : State) → Only (slot + 1) (slot + 1 + width inner) (setSlot slot 1 st .slots) (mid .slots)
+  pub message-only : (slot : ℕ) (inner : Schema) (st mid : State)
+      → Only (slot + 1) (slot + 1 + width inner) (setSlot slot 1 st .slots) (mid .slots)
       → Only slot (slot + 1 + width inner) (st .slots) (mid .slots)
   unfolding setSlot
   message-only slot inner st mid p =
@@ -132,13 +138,15 @@ module _ (frame : List ℕ) where
       (steps-only sch i (setNumber t v st) to more)
   steps-only sch i st to (takes-bytes n slot at size e l more) =
       only-then i (i + width sch) (st .slots) (setBytes slot at size st .slots) (to .slots)
-      (only-field (someBytes slot) i (i + width sch) (st .slots) (setBytes slot at size st .slots) (subst (Within i (i + width sch)) e (look-within sch i n))
+      (only-field (someBytes slot) i (i + width sch) (st .slots) (setBytes slot at size st .slots)
+      (subst (Within i (i + width sch)) e (look-within sch i n))
       (bytes-only slot at size st))
       (steps-only sch i (setBytes slot at size st) to more)
   steps-only sch i st to (takes-entry n x e few inside more) = steps-only sch i (addEntry frame x st) to more
   steps-only sch i st to (takes-message n slot inner mid e inside more) =
       only-then i (i + width sch) (st .slots) (mid .slots) (to .slots)
-      (only-field (aMessage slot inner) i (i + width sch) (st .slots) (mid .slots) (subst (Within i (i + width sch)) e (look-within sch i n))
+      (only-field (aMessage slot inner) i (i + width sch) (st .slots) (mid .slots)
+      (subst (Within i (i + width sch)) e (look-within sch i n))
       (message-only slot inner st mid (steps-only inner (slot + 1) (setSlot slot 1 st) mid inside)))
       (steps-only sch i mid to more)
 
@@ -165,8 +173,10 @@ module _ (frame : List ℕ) where
   pub steps-long : (sch : Schema) (i : ℕ) (st to : State) → Steps frame sch i st to → length (to .slots) ≡ length (st .slots)
   unfolding addEntry
   steps-long sch i st to ends = refl
-  steps-long sch i st to (takes-number n v more) = steps-long sch i (setNumber (look sch i n) v st) to more ∙ number-long (look sch i n) v st
-  steps-long sch i st to (takes-bytes n slot at size e l more) = steps-long sch i (setBytes slot at size st) to more ∙ bytes-long slot at size st
+  steps-long sch i st to (takes-number n v more) = steps-long sch i (setNumber (look sch i n) v st) to more
+      ∙ number-long (look sch i n) v st
+  steps-long sch i st to (takes-bytes n slot at size e l more) = steps-long sch i (setBytes slot at size st) to more
+      ∙ bytes-long slot at size st
   steps-long sch i st to (takes-entry n x e few inside more) = steps-long sch i (addEntry frame x st) to more
   steps-long sch i st to (takes-message n slot inner mid e inside more) =
       steps-long sch i mid to more ∙ steps-long inner (slot + 1) (setSlot slot 1 st) mid inside ∙ slot-long slot 1 st

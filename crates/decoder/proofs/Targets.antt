@@ -1,27 +1,13 @@
--- Numbers that name no field, and schema numbers that name no message.
+-- What a varint field does to the slots.
 use Prim.Native.Nat.{ℕ}
-use mathlib.Core.Path.{_≡_, sym, ap, subst, _∙_}
-use mathlib.Core.Bool.{false}
-use lib.Dec.{eqb}
-use borrow.Author.Tests.{ne-eqb}
-use Rattle.decoder.specs.Schema.{Schema, done, schemaAt, partSchema}
-use Rattle.decoder.specs.Fields.{Target, aNumber, someBytes, anEntry, aMessage, unknown}
-use Rattle.decoder.specs.DecoderState.{targetOf, Fit, withNumber}
+use mathlib.Core.Path.{_≡_, ap, subst, _∙_}
+use Rattle.schema.specs.Schema.{Schema}
+use Rattle.schema.specs.Targets.{Target, aNumber, someBytes, anEntry, aMessage, unknown, targetOf, Fit}
+use Rattle.decoder.specs.DecoderState.{withNumber}
 use lib.ListN.{set}
 use Rattle.wire_read.specs.Varint.{lowU32}
 use Rattle.decoder.specs.declared.Slots.{Slots}
-use Rattle.decoder.specs.declared.fields.Target.{Target as Place}
-
-pub other : (m n : ℕ) → (n ≡ m → ⊥) → eqb m n ≡ false
-other m n h = ne-eqb m n (λ (e : m ≡ n). h (sym e))
-
-pub other-schema : (n : ℕ) → (n ≡ 0 → ⊥) → (n ≡ 1 → ⊥) → (n ≡ 2 → ⊥) → (n ≡ 4 → ⊥) → (n ≡ 5 → ⊥) → (n ≡ 6 → ⊥) → (n ≡ 7 → ⊥)
-    → partSchema n ≡ done
-unfolding partSchema schemaAt
-other-schema n a b c d e f g =
-    rw (ne-eqb n 0 a, ne-eqb n 1 b, ne-eqb n 2 c, ne-eqb n 4 d, ne-eqb n 5 e, ne-eqb n 6 f, ne-eqb n 7 g)
-
--- ---- a varint field
+use Rattle.schema.specs.declared.Target.{Target as Place}
 
 -- what `field_target` answers is in each of its cases
 module _ {t : Target} {r q : Place} (is-t : (t ≡ targetOf r) × Fit r) (e : r ≡ q) where

@@ -1,5 +1,5 @@
 -- Only for the private functions of this crate, and imported by no other: what they promise to each other. The slots and the lent row
--- numbers are told as the state of `Fields`. What `decode` answers is in `Decoding`.
+-- numbers are reported as the state of `Fields`. What `decode` answers is in `Decoding`.
 use Prim.Native.Nat.{ℕ, suc, _+_, _-_, _<_, _≤_}
 use mathlib.Core.Path.{_≡_}
 use mathlib.Core.Bool.{cond}
@@ -8,46 +8,15 @@ use lib.ListN.{length, drop, getD, set}
 use lib.Dec.{eqb}
 use Rattle.wire_read.specs.Part.{part}
 use Rattle.wire_read.specs.Varint.{lowU32}
-use Rattle.decoder.specs.Schema.{partSchema, slotAt}
+use Rattle.schema.specs.Schema.{partSchema, slotAt}
 use Rattle.decoder.specs.Rows.{Row, rowNumbers, laidOut, rowsIn}
-use Rattle.decoder.specs.Fields.{State, Result, ok, refused, Target, aNumber, someBytes, anEntry, aMessage, unknown, startOf, partOf, sameBytes, withField, fieldsIn}
+use Rattle.decoder.specs.Fields.{State, Result, ok, refused, startOf, partOf, sameBytes, withField, fieldsIn}
+use Rattle.schema.specs.Targets.{Target, aNumber, someBytes, anEntry, aMessage, unknown}
 use Rattle.decoder.specs.declared.Slots.{Slots}
 use Rattle.decoder.specs.declared.Decoded.{Decoded}
-use Rattle.decoder.specs.declared.fields.Target.{Target as Place}
-use Rattle.decoder.specs.declared.fields.Target.the-variants as places
 use Rattle.decoder.specs.declared.entry.MapEntry.{MapEntry}
 use Rattle.decoder.specs.declared.entry.ReadEntry.{ReadEntry}
 use Rattle.decoder.specs.declared.entry.ReadEntry.the-variants as reads
-
--- ---- targets
-
--- the target that the code names
-abbrev pub targetOf : Place → Target
-targetOf (places.Number slot) = aNumber slot
-targetOf (places.Bytes slot) = someBytes slot
-targetOf places.Entry = anEntry
-targetOf (places.Message slot inner) = aMessage slot (partSchema inner)
-targetOf places.Unknown = unknown
-
--- its slots exist, and those of a part of Init follow its mark
-abbrev pub Fit : Place → Type 0
-Fit (places.Number slot) = slot < 16
-Fit (places.Bytes slot) = slot + 1 < 16
-Fit places.Entry = Unit {0}
-Fit (places.Message slot inner) = (slot < 16) × (slotAt inner ≡ slot + 1)
-Fit places.Unknown = Unit {0}
-
--- ---- the rows
-
--- the first row that has the key, or the number of rows
-unfoldable pub keyPlace : List ℕ → (key : List ℕ) → List Row → ℕ
-keyPlace frame key [] = 0
-keyPlace frame key (row ∷ rows) = cond (sameBytes (partOf frame (row .key) (row .keySize)) key) 0 (suc (keyPlace frame key rows))
-
--- every key lies within `size` bytes
-abbrev pub KeysIn : (size : ℕ) → List Row → Type 0
-KeysIn size [] = Unit {0}
-KeysIn size (row ∷ rows) = (row .key + row .keySize ≤ size) × KeysIn size rows
 
 -- ---- the state of the reading
 
@@ -55,35 +24,34 @@ KeysIn size (row ∷ rows) = (row .key + row .keySize ≤ size) × KeysIn size r
 abbrev pub stateOf : Slots → List ℕ → State
 stateOf slots numbers = record { slots = slots .values; rows = rowsIn (slots .rows) numbers; entries = slots .entries }
 
--- The slots and the row numbers hold a state that was read from a frame of `size` bytes. The numbers were `lent`.
-pub record Holds (size : ℕ) (st : State) (slots : Slots) (numbers lent : List ℕ) : Type 0 where
+-- The slots and the row numbers hold a state. The numbers were `lent`.
+pub record Holds (st : State) (slots : Slots) (numbers lent : List ℕ) : Type 0 where
   pub values-are : slots .values ≡ st .slots
   pub values-long : length (st .slots) ≡ 16
   pub rows-are : slots .rows ≡ length (st .rows)
   pub entries-are : slots .entries ≡ st .entries
   pub few : length (st .rows) ≤ st .entries
   pub counted : st .entries ≤ 64
-  pub keys : KeysIn size (st .rows)
   pub laid : numbers ≡ laidOut (st .rows) lent
   pub long : rowNumbers ≤ length lent
 
 -- the same numbers are lent anew
-abbrev pub Ready : (frame : List ℕ) → Slots → (numbers : List ℕ) → Type 0
-Ready frame slots numbers = Holds (length frame) (stateOf slots numbers) slots numbers numbers
+abbrev pub Ready : Slots → (numbers : List ℕ) → Type 0
+Ready slots numbers = Holds (stateOf slots numbers) slots numbers numbers
 
--- The answer tells the result of a reading. Of an error, the numbers past the rows are untouched.
+-- The answer reports the result of a reading. Of an error, the numbers past the rows are untouched.
 pub record Refuses (code : ℕ) (r : Decoded) (numbers lent : List ℕ) : Type 0 where
   pub code-is : r .error ≡ code
   pub some-code : 0 < code
   pub past : drop rowNumbers numbers ≡ drop rowNumbers lent
 
-pub record Succeeds (size : ℕ) (st : State) (r : Decoded) (numbers lent : List ℕ) : Type 0 where
+pub record Succeeds (st : State) (r : Decoded) (numbers lent : List ℕ) : Type 0 where
   pub no-error : r .error ≡ 0
-  pub holds : Holds size st (r .slots) numbers lent
+  pub holds : Holds st (r .slots) numbers lent
 
-abbrev pub Tells : (size : ℕ) → Result → Decoded → (numbers lent : List ℕ) → Type 0
-Tells size (ok st) r numbers lent = Succeeds size st r numbers lent
-Tells size (refused code) r numbers lent = Refuses code r numbers lent
+abbrev pub Tells : Result → Decoded → (numbers lent : List ℕ) → Type 0
+Tells (ok st) r numbers lent = Succeeds st r numbers lent
+Tells (refused code) r numbers lent = Refuses code r numbers lent
 
 -- ---- one field
 
@@ -105,7 +73,11 @@ withNumber (aMessage i inner) v s = s
 withNumber unknown v s = s
 
 unfoldable pub withBytes : ℕ → ℕ → ℕ → Slots → Slots
-withBytes i start size s = record { values = set (set (s .values) i (startOf start size)) (i + 1) size; rows = s .rows; entries = s .entries }
+withBytes i start size s = record {
+  values = set (set (s .values) i (startOf start size)) (i + 1) size;
+  rows = s .rows;
+  entries = s .entries;
+}
 
 -- ---- a map entry
 
@@ -120,13 +92,13 @@ withSpan n start size e =
 
 -- the answer to the reading of an entry
 abbrev pub entryOf : Result → ReadEntry
-entryOf (ok e) = reads.Entry (record { key = getD (e .slots) 0 0; «key_size» = getD (e .slots) 1 0; value = getD (e .slots) 2 0; «value_size» = getD (e .slots) 3 0 })
+entryOf (ok e) = reads.Entry (record {
+  key = getD (e .slots) 0 0;
+  «key_size» = getD (e .slots) 1 0;
+  value = getD (e .slots) 2 0;
+  «value_size» = getD (e .slots) 3 0;
+})
 entryOf (refused code) = reads.Refused code
 
 abbrev pub rowOfEntry : MapEntry → Row
 rowOfEntry e = record { key = e .key; keySize = e .«key_size»; value = e .value; valueSize = e .«value_size» }
-
--- a key lies within the frame, and an error is some code
-abbrev pub EntryIn : (size : ℕ) → ReadEntry → Type 0
-EntryIn size (reads.Entry e) = e .key + e .«key_size» ≤ size
-EntryIn size (reads.Refused code) = 0 < code

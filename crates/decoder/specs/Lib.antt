@@ -1,5 +1,4 @@
 -- What the contracts of `decoder` cite, in the order of document 01, "The messages"
-pub mod Schema
 pub mod Rows
 pub mod Fields
 pub mod Decoding

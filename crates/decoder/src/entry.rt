@@ -1,15 +1,15 @@
 // A map entry: "a message of key 1 and value 2".
-use crate::fields::start_of;
+use crate::walking::start_of;
 use crate::walking::step_in;
 use wire_read::Field;
 ghost use mathlib.Core.Path.{_≡_};
 ghost use Prim.Native.Nat.{_+_, _-_, _≤_};
 ghost use lib.ListN.{length};
-ghost use Rattle.deframer.specs.Header.{maxFrame};
+ghost use Rattle.fixed_header.specs.Header.{maxFrame};
 ghost use Rattle.wire_read.specs.Part.{part};
-ghost use Rattle.decoder.specs.Schema.{entry};
+ghost use Rattle.schema.specs.Schema.{entry};
 ghost use Rattle.decoder.specs.Fields.{fieldsIn, blank};
-ghost use Rattle.decoder.specs.DecoderState.{entryOf, EntryIn, withSpan};
+ghost use Rattle.decoder.specs.DecoderState.{entryOf, withSpan};
 
 // The starts and lengths of an entry's key and value; an empty one is 0, 0.
 pub(crate) struct MapEntry {
@@ -53,7 +53,7 @@ fn set_span(e: MapEntry, number: u32, start: usize, size: usize) -> MapEntry
 // The entry in the bytes of the frame from `at` to `end`.
 pub(crate) fn read_entry(frame: &[u8], at: usize, end: usize) -> ReadEntry
     requires { ⌜ (at ≤ end) × (end ≤ length (now frame)) × (length (now frame) ≤ maxFrame) ⌝ }
-    ensures { λ r. ⌜ (r ≡ entryOf (fieldsIn (end - at) (now (frame .entry)) entry 0 at (part (now (frame .entry)) at end) blank)) × EntryIn (length (now (frame .entry))) r ⌝ }
+    ensures { λ r. ⌜ r ≡ entryOf (fieldsIn (end - at) (now (frame .entry)) entry 0 at (part (now (frame .entry)) at end) blank) ⌝ }
 {
     let mut e = MapEntry {
         key: 0,

@@ -1,38 +1,22 @@
 // The decoder of the tRPC messages: the fields of a part of a frame go to slots, and its map to lent
 // rows, by a schema number.
 mod entry;
-mod fields;
 mod messages;
 mod rows;
 mod walking;
 
-use deframer::MAX_FRAME;
+use fixed_header::MAX_FRAME;
 use messages::decode_part;
 use messages::refused;
+use refusals::ROWS_SHORT;
+use refusals::WRONG_FRAME;
 use rows::clear;
 ghost use mathlib.Core.Path.{_≡_};
 ghost use Prim.Native.Nat.{min};
 ghost use lib.ListN.{length};
-ghost use Rattle.decoder.specs.Rows.{rowsCleared};
-ghost use Rattle.decoder.specs.Fields.{partOf, sameBytes};
+ghost use Rattle.decoder.specs.Rows.{rowsLent, rowsCleared};
+ghost use Rattle.decoder.specs.Fields.{partOf, sameBytes, keyPlace};
 ghost use Rattle.decoder.specs.Decoding.{decoded};
-
-// The schema numbers: the messages, and the two parts of Init. Data has no fields, nor has a message of any other number.
-pub const REQUEST: u32 = 0;
-
-pub const RESPONSE: u32 = 1;
-
-pub const INIT: u32 = 2;
-
-pub const DATA: u32 = 3;
-
-pub const FEEDBACK: u32 = 4;
-
-pub const CLOSE: u32 = 5;
-
-pub const REQUEST_META: u32 = 6;
-
-pub const RESPONSE_META: u32 = 7;
 
 // The numbers that the rows may take, four to a row.
 pub const ROW_NUMBERS: usize = 256;
@@ -65,10 +49,10 @@ pub fn decode(frame: &[u8], at: usize, end: usize, schema: u32, rows: &mut [u32]
     ensures { λ r. ⌜ now (rows .exit) ≡ decoded (now (frame .entry)) at end schema (now (rows .entry)) .rows ⌝ }
 {
     if rows.len() < ROW_NUMBERS {
-        return refused(16);
+        return refused(ROWS_SHORT);
     }
     if MAX_FRAME < frame.len() {
-        return refused(9);
+        return refused(WRONG_FRAME);
     }
     let stop = least(end, frame.len());
     decode_part(frame, least(at, stop), stop, schema, rows)
@@ -98,4 +82,27 @@ pub fn same_key(bytes: &[u8], a: usize, a_size: usize, b: usize, b_size: usize) 
     ensures { λ r. ⌜ r ≡ sameBytes (partOf (now (bytes .entry)) a «a_size») (partOf (now (bytes .entry)) b «b_size») ⌝ }
 {
     check::same(named(bytes, a, a_size), named(bytes, b, b_size))
+}
+
+// The first of `count` rows, as far as they are lent, that has the key that a start and a length name; or how many rows
+// these are.
+pub fn find_key(bytes: &[u8], rows: &[u32], count: usize, key: usize, key_size: usize) -> usize
+    ensures { λ r. ⌜ r ≡ keyPlace (now (bytes .entry)) (partOf (now (bytes .entry)) key «key_size») (rowsLent count (now (rows .entry))) ⌝ }
+{
+    let n = least(count, rows.len() / 4);
+    let mut i = 0;
+    while i < n {
+        let at = i * 4;
+        if same_key(
+            bytes,
+            rows[at] as usize,
+            rows[at + 1] as usize,
+            key,
+            key_size,
+        ) {
+            return i;
+        }
+        i += 1;
+    }
+    i
 }

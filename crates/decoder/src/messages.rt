@@ -3,22 +3,24 @@ use crate::Decoded;
 use crate::Slots;
 use crate::entry::ReadEntry;
 use crate::entry::read_entry;
-use crate::fields::Target;
-use crate::fields::field_target;
-use crate::fields::message_schema;
-use crate::fields::start_of;
 use crate::rows::clear;
 use crate::rows::enter_row;
+use crate::walking::start_of;
 use crate::walking::step_in;
+use refusals::TOO_MANY_ENTRIES;
+use schema::Target;
+use schema::field_target;
+use schema::message_schema;
 use wire_read::Field;
 ghost use mathlib.Core.Path.{_≡_};
 ghost use Prim.Native.Nat.{_+_, _≤_, _<_};
 ghost use lib.ListN.{length};
-ghost use Rattle.deframer.specs.Header.{maxFrame};
+ghost use Rattle.fixed_header.specs.Header.{maxFrame};
 ghost use Rattle.wire_read.specs.Part.{part};
-ghost use Rattle.decoder.specs.Schema.{schemaAt, partSchema, slotAt};
+ghost use Rattle.schema.specs.Schema.{schemaAt, partSchema, slotAt};
 ghost use Rattle.decoder.specs.Rows.{rowNumbers};
-ghost use Rattle.decoder.specs.Fields.{look, anEntry, readMessage};
+ghost use Rattle.schema.specs.Targets.{look, anEntry};
+ghost use Rattle.decoder.specs.Fields.{readMessage};
 ghost use Rattle.decoder.specs.Decoding.{refusedAs, outcome};
 ghost use Rattle.decoder.specs.DecoderState.{stateOf, Ready, Tells, withFieldAt, readAt, withNumber, withBytes};
 
@@ -26,8 +28,6 @@ ghost use Rattle.decoder.specs.DecoderState.{stateOf, Ready, Tells, with
 const MAX_ENTRIES: u32 = 64;
 // "absent is 0 or empty"
 const ABSENT: u32 = 0;
-// 14: "65th map entry, repeats counted"
-const TOO_MANY_ENTRIES: u32 = 14;
 
 // A refusal: nothing was read.
 pub(crate) fn refused(code: u32) -> Decoded
@@ -74,8 +74,9 @@ fn set_bytes(slots: Slots, slot: usize, start: usize, size: usize) -> Slots
 
 // The map entry in the `size` bytes of the frame from `start`.
 fn add_entry(frame: &[u8], start: usize, size: usize, slots: Slots, rows: &mut [u32]) -> Decoded
-    requires { ⌜ (start + size ≤ length (now frame)) × (length (now frame) ≤ maxFrame) × Ready (now frame) slots (now rows) ⌝ }
-    ensures { λ r. ⌜ Tells (length (now (frame .entry))) (withFieldAt (now (frame .entry)) start size (stateOf slots (now (rows .entry))) anEntry) r (now (rows .exit)) (now (rows .entry)) ⌝ }
+    requires { ⌜ (start + size ≤ length (now frame)) × (length (now frame) ≤ maxFrame) × Ready slots (now rows) ⌝ }
+    ensures { λ r. ⌜ Tells (withFieldAt (now (frame .entry)) start size (stateOf slots (now (rows .entry))) anEntry)
+        r (now (rows .exit)) (now (rows .entry)) ⌝ }
 {
     let entries = slots.entries;
     if entries >= MAX_ENTRIES {
@@ -112,8 +113,10 @@ fn read_inside(
     slots: Slots,
     rows: &mut [u32],
 ) -> Decoded
-    requires { ⌜ (start + size ≤ length (now frame)) × (length (now frame) ≤ maxFrame) × Ready (now frame) slots (now rows) ⌝ }
-    ensures { λ r. ⌜ Tells (length (now (frame .entry))) (withFieldAt (now (frame .entry)) start size (stateOf slots (now (rows .entry))) (look (partSchema schema) (slotAt schema) number)) r (now (rows .exit)) (now (rows .entry)) ⌝ }
+    requires { ⌜ (start + size ≤ length (now frame)) × (length (now frame) ≤ maxFrame) × Ready slots (now rows) ⌝ }
+    ensures { λ r. ⌜ Tells
+        (withFieldAt (now (frame .entry)) start size (stateOf slots (now (rows .entry))) (look (partSchema schema) (slotAt schema) number))
+        r (now (rows .exit)) (now (rows .entry)) ⌝ }
 {
     let t = field_target(schema, number);
     match t {
@@ -141,8 +144,9 @@ fn read_fields(
     initial: Slots,
     rows: &mut [u32],
 ) -> Decoded
-    requires { ⌜ (at ≤ end) × (end ≤ length (now frame)) × (length (now frame) ≤ maxFrame) × Ready (now frame) initial (now rows) ⌝ }
-    ensures { λ r. ⌜ Tells (length (now (frame .entry))) (readAt (now (frame .entry)) schema at end (stateOf initial (now (rows .entry)))) r (now (rows .exit)) (now (rows .entry)) ⌝ }
+    requires { ⌜ (at ≤ end) × (end ≤ length (now frame)) × (length (now frame) ≤ maxFrame) × Ready initial (now rows) ⌝ }
+    ensures { λ r. ⌜ Tells (readAt (now (frame .entry)) schema at end (stateOf initial (now (rows .entry))))
+        r (now (rows .exit)) (now (rows .entry)) ⌝ }
 {
     let mut slots = initial;
     let mut i = at;
@@ -185,8 +189,10 @@ pub(crate) fn decode_part(
     rows: &mut [u32],
 ) -> Decoded
     requires { ⌜ (at ≤ end) × (end ≤ length (now frame)) × (length (now frame) ≤ maxFrame) × (rowNumbers ≤ length (now rows)) ⌝ }
-    ensures { λ r. ⌜ r ≡ outcome (readMessage (now (frame .entry)) (schemaAt schema) at (part (now (frame .entry)) at end)) (now (rows .entry)) .answer ⌝ }
-    ensures { λ r. ⌜ now (rows .exit) ≡ outcome (readMessage (now (frame .entry)) (schemaAt schema) at (part (now (frame .entry)) at end)) (now (rows .entry)) .rows ⌝ }
+    ensures { λ r. ⌜ r ≡ outcome (readMessage (now (frame .entry)) (schemaAt schema) at (part (now (frame .entry)) at end))
+        (now (rows .entry)) .answer ⌝ }
+    ensures { λ r. ⌜ now (rows .exit) ≡ outcome (readMessage (now (frame .entry)) (schemaAt schema) at (part (now (frame .entry)) at end))
+        (now (rows .entry)) .rows ⌝ }
 {
     clear(rows);
     let blank = Slots {

@@ -5,7 +5,9 @@ use wire_walk::field_at;
 ghost use mathlib.Core.Path.{_≡_};
 ghost use Prim.Native.Nat.{_≤_};
 ghost use lib.ListN.{length, take};
+ghost use Rattle.fixed_header.specs.Header.{maxFrame};
 ghost use Rattle.wire_walk.specs.Reader.{stepAt};
+ghost use Rattle.decoder.specs.Fields.{startOf};
 
 // What a reader of the frame's bytes up to `end` finds at this place, and the place after it.
 pub(crate) fn step_in(frame: &[u8], at: usize, end: usize) -> Step
@@ -14,4 +16,12 @@ pub(crate) fn step_in(frame: &[u8], at: usize, end: usize) -> Step
 {
     let start = 0;
     field_at(&frame[start..end], at)
+}
+
+// "A byte field is a start and length counted from the frame's first byte; an empty one is 0, 0."
+pub(crate) fn start_of(start: usize, size: usize) -> u32
+    requires { ⌜ start ≤ maxFrame ⌝ }
+    ensures { λ r. ⌜ r ≡ startOf start size ⌝ }
+{
+    if size == 0 { 0 } else { start as u32 }
 }

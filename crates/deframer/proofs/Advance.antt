@@ -1,4 +1,4 @@
--- The moves of the deframer, over plain lists: what stands first in a stream, case by case, and what each `return` of `body`, `head` and
+-- The moves of the deframer, over plain lists: what comes first in a stream, case by case, and what each `return` of `body`, `head` and
 -- `deframe` asks
 use Prim.Native.Nat.{ℕ, _+_, _-_, _≤_, _<_, min}
 use mathlib.Core.Path.{_≡_, refl, sym, ap, _∙_}
@@ -10,16 +10,17 @@ use native.Mathlib.Decide.{decLe, decLt, ℕ-discrete}
 use borrow.Author.Tests.{lt-ltb, le-ltb, le-leb, lt-leb, eq-eqb, ne-eqb}
 use lib.ListN.{length, take, drop, take-append-drop}
 use lib.Seq.{length-take-le, take-at}
-use Rattle.deframer.specs.Header.{maxFrame, headerError, totalOf}
+use Rattle.fixed_header.specs.Header.{maxFrame, headerError, totalOf}
 use Rattle.deframer.specs.Deframe.{knownOf, stream, nextFrame, reach, nextState, advance, refuse, unmoved, deframed}
 use Rattle.deframer.specs.declared.Deframer.{Deframer}
 use Rattle.deframer.specs.declared.Step.{Step}
 use Rattle.deframer.specs.declared.Progress.{Progress}
 use Rattle.deframer.specs.declared.Progress.the-variants.{Frame, NeedMore, Refused}
-use Rattle.deframer.proofs.Lists.{stream-length, stream-head, drop-stream, drop-past}
-use Rattle.deframer.proofs.Codes.{good-total}
+use Rattle.deframer.proofs.Lists.{stream-length, stream-head, drop-stream}
+use Rattle.laws.proofs.Lists.{drop-past}
+use Rattle.fixed_header.proofs.Codes.{good-total}
 
--- ---- what stands first in a stream
+-- ---- what comes first in a stream
 module _ (s : List ℕ) where
   pub next-short : length s < 16 → nextFrame s ≡ NeedMore
   unfolding nextFrame
@@ -69,13 +70,15 @@ reach-past l h = go (shape l)
 abbrev pub Moved : Step → List ℕ → ℕ → List ℕ → List ℕ → Type 0
 Moved r ys old d l = (r ≡ advance old d l .step) × (ys ≡ advance old d l .buffer)
 
-move : (p : Progress) (d l ys : List ℕ) (old k : ℕ) (st : Deframer) → nextFrame l ≡ p → k ≡ reach p l → st ≡ nextState p l → ys ≡ take k l ++ drop k d
+move : (p : Progress) (d l ys : List ℕ) (old k : ℕ) (st : Deframer) → nextFrame l ≡ p → k ≡ reach p l → st ≡ nextState p l
+    → ys ≡ take k l ++ drop k d
     → Moved (record { progress = p; next = st; taken = k - old }) ys old d l
 move p d l ys old k st f e s y = rw (f, ← e, ← s) (refl, y)
 
--- ---- `body`: the rest of a frame, behind a good header that is in the buffer
+-- ---- `body`: the rest of a frame, after a good header that is in the buffer
 module _ (d q ys : List ℕ) (old held h t : ℕ) (big : maxFrame ≤ length d) (good : headerError (take 16 d) ≡ 0) (past : 16 ≤ held)
-    (is : t ≡ totalOf (take 16 d)) (upto : held ≤ t) (hm : h ≡ min t (length (stream held d q))) (y : ys ≡ take h (stream held d q) ++ drop h d) where
+    (is : t ≡ totalOf (take 16 d)) (upto : held ≤ t) (hm : h ≡ min t (length (stream held d q)))
+    (y : ys ≡ take h (stream held d q) ++ drop h d) where
   fits : held ≤ length d
   fits = omega (arith, good-total (take 16 d) good)
 
@@ -85,13 +88,15 @@ module _ (d q ys : List ℕ) (old held h t : ℕ) (big : maxFrame ≤ length d) 
   long : 16 ≤ length (stream held d q)
   long = omega (arith, stream-length d q held fits)
 
-  pub body-more : h < t → Moved (record { progress = NeedMore; next = record { held = h; error = 0 }; taken = h - old }) ys old d (stream held d q)
+  pub body-more : h < t
+      → Moved (record { progress = NeedMore; next = record { held = h; error = 0 }; taken = h - old }) ys old d (stream held d q)
   body-more l =
       let e : h ≡ length (stream held d q) = omega arith in
       move NeedMore d (stream held d q) ys old h _ (next-part (stream held d q) long (rw head good) (rw head (omega arith))) e
       (ap (λ (n : ℕ). record { held = n; error = 0 }) e) y
 
-  pub body-whole : t ≤ h → Moved (record { progress = Frame t; next = record { held = 0; error = 0 }; taken = t - old }) ys old d (stream held d q)
+  pub body-whole : t ≤ h
+      → Moved (record { progress = Frame t; next = record { held = 0; error = 0 }; taken = t - old }) ys old d (stream held d q)
   body-whole l =
       let e : h ≡ t = omega arith in
       move (Frame t) d (stream held d q) ys old t _
@@ -100,10 +105,12 @@ module _ (d q ys : List ℕ) (old held h t : ℕ) (big : maxFrame ≤ length d) 
 -- ---- `head`: r bytes of the stream are in the buffer ys
 module _ (d p ys : List ℕ) (held r : ℕ) (big : maxFrame ≤ length d) (under : held < 16)
     (fm : r ≡ min 16 (length (stream held d p))) (fy : ys ≡ take r (stream held d p) ++ drop r d) where
-  pub head-short : r < 16 → Moved (record { progress = NeedMore; next = record { held = r; error = 0 }; taken = r - held }) ys held d (stream held d p)
+  pub head-short : r < 16
+      → Moved (record { progress = NeedMore; next = record { held = r; error = 0 }; taken = r - held }) ys held d (stream held d p)
   head-short l =
       let e : r ≡ length (stream held d p) = omega arith in
-      move NeedMore d (stream held d p) ys held r _ (next-short (stream held d p) (omega arith)) e (ap (λ (n : ℕ). record { held = n; error = 0 }) e) fy
+      move NeedMore d (stream held d p) ys held r _ (next-short (stream held d p) (omega arith)) e
+      (ap (λ (n : ℕ). record { held = n; error = 0 }) e) fy
 
   module _ (ge : 16 ≤ r) where
     full : 16 ≤ length (stream held d p)
@@ -134,13 +141,15 @@ module _ (d p ys : List ℕ) (held r : ℕ) (big : maxFrame ≤ length d) (under
         move (Refused f) d (stream held d p) ys held 16 _ (next-bad (stream held d p) full (rw (← g) n) ∙ ap Refused (sym g)) refl refl y
 
     -- the move from the buffer with the header in it is the move of the whole call
-    pub head-on : (res : Step) (zs : List ℕ) → Moved res zs held ys (stream 16 ys (drop (16 - held) p)) → Moved res zs held d (stream held d p)
+    pub head-on : (res : Step) (zs : List ℕ) → Moved res zs held ys (stream 16 ys (drop (16 - held) p))
+        → Moved res zs held d (stream held d p)
     head-on res zs m =
         let n : Moved res zs held ys (stream held d p) = rw on at m in
         let k = reach (nextFrame (stream held d p)) (stream held d p) in
         let e : drop k ys ≡ drop k d =
         ap (drop k) y
-        ∙ drop-past k 16 (take 16 (stream held d p)) (drop 16 d) d (length-take-le 16 (stream held d p) full) (reach-past (stream held d p) full) refl in
+        ∙ drop-past k 16 (take 16 (stream held d p)) (drop 16 d) d (length-take-le 16 (stream held d p) full)
+        (reach-past (stream held d p) full) refl in
         (n .0, n .1 ∙ ap (λ (x : List ℕ). take k (stream held d p) ++ x) e)
 
 -- ---- `deframe`: the four outcomes of a call
@@ -167,7 +176,8 @@ module _ (st : Deframer) (d p : List ℕ) where
 abbrev pub Called : Step → List ℕ → Deframer → List ℕ → List ℕ → Type 0
 Called r ys st d p = (r ≡ deframed st d p .step) × (ys ≡ deframed st d p .buffer)
 
-pub called-refused : (st : Deframer) (d p : List ℕ) (n : ℕ) (r : Step) → r ≡ refuse n st → deframed st d p ≡ unmoved n st d → Called r d st d p
+pub called-refused : (st : Deframer) (d p : List ℕ) (n : ℕ) (r : Step) → r ≡ refuse n st → deframed st d p ≡ unmoved n st d
+    → Called r d st d p
 called-refused st d p n r e u = rw u (e, refl)
 
 pub called-moved : (st : Deframer) (d p : List ℕ) (r : Step) (ys : List ℕ) → deframed st d p ≡ advance (st .held) d (stream (st .held) d p)
@@ -175,5 +185,6 @@ pub called-moved : (st : Deframer) (d p : List ℕ) (r : Step) (ys : List ℕ) �
 called-moved st d p r ys e m = rw e m
 
 -- where the header is in the buffer at the call, nothing of the piece is in it
-pub from-start : (r : Step) (ys d p : List ℕ) (held : ℕ) → Moved r ys held d (stream held d (drop (held - held) p)) → Moved r ys held d (stream held d p)
+pub from-start : (r : Step) (ys d p : List ℕ) (held : ℕ) → Moved r ys held d (stream held d (drop (held - held) p))
+    → Moved r ys held d (stream held d p)
 from-start r ys d p held m = rw sub-self at m

@@ -9,10 +9,11 @@ use native.Mathlib.Decide.{decLt, ℕ-discrete}
 use borrow.Author.Tests.{lt-ltb, le-ltb, le-leb, eq-eqb, ne-eqb, eqb-true, ltb-true}
 use lib.Dec.{eqb, ltb, leb}
 use lib.ListN.{length, take}
-use Rattle.deframer.specs.Header.{maxFrame, headerError, totalOf, faultOf}
+use Rattle.fixed_header.specs.Header.{maxFrame, headerError, totalOf, faultOf}
 use Rattle.deframer.specs.Deframe.{knownOf}
 use Rattle.deframer.specs.declared.Deframer.{Deframer}
-use Rattle.deframer.proofs.Codes.{both, first-sixteen, good-total, Code, fault-code}
+use Rattle.laws.proofs.Booleans.{both}
+use Rattle.fixed_header.proofs.Codes.{first-sixteen, good-total, Code, fault-code}
 
 module _ (st : Deframer) (d : List ℕ) where
   -- ---- with no error code

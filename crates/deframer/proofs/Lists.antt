@@ -1,21 +1,12 @@
--- Lists: a copy behind the bytes held, and the stream that is held bytes and then a piece
+-- The stream, which is the bytes held and then a piece
 use Prim.Native.Nat.{ℕ, _+_, _-_, _≤_, _<_, min}
 use mathlib.Core.Path.{_≡_, sym, ap, _∙_}
-use mathlib.Core.List.{List, [], _++_, append-assoc, append-nil}
+use mathlib.Core.List.{List, _++_}
 use native.Mathlib.Omega.{arith}
 use native.Mathlib.Nat.{add-sub-of-le}
-use lib.ListN.{length, take, drop, length-append, length-drop, drop-of-length-le}
-use lib.Seq.{take-all, take-length, drop-drop, length-take-le, take-append-add, drop-append-add, take-append-le, take-take, take-at}
+use lib.ListN.{length, take, drop, length-append}
+use lib.Seq.{take-all, length-take-le, take-append-add, drop-append-add, take-append-le, take-take}
 use Rattle.deframer.specs.Deframe.{stream}
-
--- what a copy of s into `&mut d[at..]` leaves of d
-pub put-back : (d s ys : List ℕ) (at : ℕ) → at + length s ≤ length d
-    → ys ≡ take (length s) s ++ drop (length s) (take (length d - at) (drop at d))
-    → take at d ++ (ys ++ drop (length d - at) (drop at d)) ≡ take at d ++ s ++ drop (at + length s) d
-put-back d s ys at h e =
-    let e1 : take (length d - at) (drop at d) ≡ drop at d = take-all (length d - at) (drop at d) (omega (arith, length-drop at d)) in
-    let e2 : drop (length d - at) (drop at d) ≡ [] = drop-of-length-le (drop at d) {i = length d - at} (omega (arith, length-drop at d)) in
-    rw (e, e1, e2, append-nil, take-length, drop-drop) (sym (append-assoc (take at d) s (drop (at + length s) d)))
 
 module _ (d s : List ℕ) (at : ℕ) (fits : at ≤ length d) where
   pub stream-length : length (stream at d s) ≡ at + length s
@@ -48,29 +39,6 @@ module _ (d s ys : List ℕ) (at goal : ℕ) (h : at ≤ goal) (g : goal ≤ len
   fill-some l e =
       let n : at + length (take (goal - at) s) ≡ goal = ap (λ (k : ℕ). at + k) (length-take-le (goal - at) s l) ∙ add-sub-of-le h in (
         omega (arith, stream-length d s at (omega arith)),
-        e ∙ ap (λ (k : ℕ). stream at d (take (goal - at) s) ++ drop k d) n ∙ ap (λ (x : List ℕ). x ++ drop goal d) (stream-reach d s at (omega arith) goal h),
+        e ∙ ap (λ (k : ℕ). stream at d (take (goal - at) s) ++ drop k d) n
+            ∙ ap (λ (x : List ℕ). x ++ drop goal d) (stream-reach d s at (omega arith) goal h),
       )
-
--- a part past the seam of two lists
-pub drop-past : (n k : ℕ) (a b d : List ℕ) → length a ≡ k → k ≤ n → b ≡ drop k d → drop n (a ++ b) ≡ drop n d
-drop-past n k a b d l h e =
-    ap (λ (m : ℕ). drop m (a ++ b)) (sym (add-sub-of-le h) ∙ ap (λ (m : ℕ). m + (n - k)) (sym l))
-    ∙ drop-append-add a b (n - k)
-    ∙ ap (drop (n - k)) e
-    ∙ drop-drop (n - k) k d
-    ∙ ap (λ (m : ℕ). drop m d) (add-sub-of-le h)
-
--- the whole of what stands behind the first n
-pub tail-all : (n : ℕ) (p : List ℕ) → take (length p - n) (drop n p) ≡ drop n p
-tail-all n p = take-all (length p - n) (drop n p) (omega (arith, length-drop n p))
-
--- n bytes of the stream l laid over the buffer d
-module _ (n : ℕ) (l d : List ℕ) (h : n ≤ length l) (g : n ≤ length d) where
-  pub land-length : length (take n l ++ drop n d) ≡ length d
-  land-length = omega (arith, length-append (take n l) (drop n d), length-take-le n l h, length-drop n d)
-
-  pub land-take : take n (take n l ++ drop n d) ≡ take n l
-  land-take = take-at (take n l) (drop n d) n (length-take-le n l h)
-
-  pub land-head : (k : ℕ) → k ≤ n → take k (take n l ++ drop n d) ≡ take k l
-  land-head k p = take-append-le k (take n l) (drop n d) (omega (arith, length-take-le n l h)) ∙ take-take k n l p

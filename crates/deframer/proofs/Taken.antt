@@ -8,19 +8,20 @@ use native.Mathlib.Omega.{arith}
 use native.Mathlib.Decide.{decLe, decLt, ℕ-discrete}
 use lib.Dec.{T}
 use lib.ListN.{length, take, length-append, length-take}
-use Rattle.deframer.specs.Header.{maxFrame, headerError, totalOf}
-use Rattle.deframer.specs.Deframe.{Out, knownOf, stream, nextFrame, reach, advance, unmoved, deframed}
-use Rattle.deframer.specs.Calls.{isRefused}
+use Rattle.fixed_header.specs.Header.{maxFrame, headerError, totalOf}
+use Rattle.deframer.specs.Deframe.{Out, knownOf, stream, nextFrame, reach, advance, unmoved, deframed, isRefused}
 use Rattle.deframer.specs.declared.Deframer.{Deframer}
 use Rattle.deframer.proofs.Lists.{stream-length, stream-head}
-use Rattle.deframer.proofs.Codes.{good-total}
+use Rattle.fixed_header.proofs.Codes.{good-total}
 use Rattle.deframer.proofs.Known.{known-good, held-fits}
-use Rattle.deframer.proofs.Advance.{Shape, short, bad, part, whole, shape, next-short, next-bad, next-part, next-whole, call-small, call-unknown, call-refused, call-moves}
+use Rattle.deframer.proofs.Advance.{Shape, short, bad, part, whole, shape, next-short}
+use Rattle.deframer.proofs.Advance.{next-bad, next-part, next-whole, call-small, call-unknown, call-refused, call-moves}
 
 -- the outcomes of a call: it moves on, or it is refused and takes nothing
 data Outcome (st : Deframer) (d p : List ℕ) : Type 0 where
   stays : (code : ℕ) → deframed st d p ≡ unmoved code st d → Outcome st d p
-  moves : maxFrame ≤ length d → knownOf st d ≡ true → st .error ≡ 0 → deframed st d p ≡ advance (st .held) d (stream (st .held) d p) → Outcome st d p
+  moves : maxFrame ≤ length d → knownOf st d ≡ true → st .error ≡ 0 → deframed st d p ≡ advance (st .held) d (stream (st .held) d p)
+      → Outcome st d p
 
 outcome : (st : Deframer) (d p : List ℕ) → Outcome st d p
 outcome st d p = go (decLt (length d) maxFrame) (knownOf st d) refl (ℕ-discrete (st .error) 0)

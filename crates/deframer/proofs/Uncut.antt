@@ -8,10 +8,10 @@ use borrow.Author.Tests.{lt-ltb, le-ltb, le-leb, lt-leb, eq-eqb, ne-eqb}
 use lib.Dec.{eqb}
 use lib.ListN.{length, take, drop, length-append, length-drop, take-append-drop}
 use lib.Seq.{length-take-le, take-append-le, take-at, drop-at, take-take}
-use Rattle.deframer.specs.Header.{headerError, totalOf}
+use Rattle.fixed_header.specs.Header.{headerError, totalOf}
 use Rattle.deframer.specs.Stream.{Uncut, stops, before, uncutIn, uncut}
 use Rattle.deframer.specs.declared.End.the-variants.{Clean, Short, Refused}
-use Rattle.deframer.proofs.Codes.{good-total}
+use Rattle.fixed_header.proofs.Codes.{good-total}
 use Rattle.deframer.proofs.Advance.{Shape, short, bad, part, whole, shape}
 
 -- ---- the four cases
@@ -73,7 +73,8 @@ module _ (s : List ℕ) where
         let n = length-drop (totalOf (take 16 s)) s in
         let t = good-total (take 16 s) e in
         in-whole (length s) s h e l
-        ∙ ap (before (take (totalOf (take 16 s)) s)) (enough (length s) (suc (length (drop (totalOf (take 16 s)) s))) (drop (totalOf (take 16 s)) s) (omega arith) (omega arith))
+        ∙ ap (before (take (totalOf (take 16 s)) s))
+        (enough (length s) (suc (length (drop (totalOf (take 16 s)) s))) (drop (totalOf (take 16 s)) s) (omega arith) (omega arith))
 
 -- the bytes of one frame: a good header, and as many bytes as its total
 pub record Whole (f : List ℕ) : Type 0 where
@@ -81,7 +82,7 @@ pub record Whole (f : List ℕ) : Type 0 where
   pub good : headerError (take 16 f) ≡ 0
   pub all : totalOf (take 16 f) ≡ length f
 
--- a frame, and the stream behind it
+-- a frame, and the stream after it
 pub uncut-frame : (f r : List ℕ) → Whole f → uncut (f ++ r) ≡ before f (uncut r)
 uncut-frame f r w =
     let a : take 16 (f ++ r) ≡ take 16 f = take-append-le 16 f r (w .long) in

@@ -2,10 +2,10 @@
 -- The bytes held and then the piece are the stream since the end of the last frame: all is said of that one list
 use Prim.Native.Nat.{ℕ, _-_}
 use mathlib.Core.List.{List, _++_}
-use mathlib.Core.Bool.{Bool, true, not, cond, _&&_}
+use mathlib.Core.Bool.{Bool, true, false, not, cond, _&&_}
 use lib.Dec.{eqb, ltb, leb}
 use lib.ListN.{length, take, drop}
-use Rattle.deframer.specs.Header.{headerError, totalOf, maxFrame}
+use Rattle.fixed_header.specs.Header.{headerError, totalOf, maxFrame}
 use Rattle.deframer.specs.declared.Deframer.{Deframer}
 use Rattle.deframer.specs.declared.Step.{Step}
 use Rattle.deframer.specs.declared.Progress.{Progress}
@@ -51,6 +51,12 @@ nextState (Frame size) s = fresh
 nextState NeedMore s = record { held = length s; error = 0 }
 nextState (Refused code) s = record { held = 16; error = code }
 
+-- the call was refused: its state or buffer, or a header, by this call or before it
+abbrev pub isRefused : Progress → Bool
+isRefused (Frame size) = false
+isRefused NeedMore = false
+isRefused (Refused code) = true
+
 -- a call's answer, and the buffer after it
 pub record Out : Type 0 where
   pub step : Step
@@ -83,7 +89,8 @@ deframed state buffer piece =
     (cond (not (eqb (state .error) 0)) (unmoved (state .error) state buffer)
     (advance (state .held) buffer (stream (state .held) buffer piece))))
 
--- The codes in the same order. "The end verdict, asked with state and buffer, is clean (nothing held), short with the count held, or the refusal."
+-- The codes in the same order. "The end verdict, asked with state and buffer, is clean (nothing held), short with the count held, or the
+-- refusal."
 unfoldable pub ended : Deframer → List ℕ → End
 ended state buffer =
     cond (ltb (length buffer) maxFrame) (end.Refused 1)

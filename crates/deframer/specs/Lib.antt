@@ -1,5 +1,3 @@
--- What the contracts of `frame` cite, section by section of document 01; and demand 3, with the uncut reading that it is about
-pub mod Header
+-- Document 01, "Cutting": what the contracts cite, and the uncut reading, which `thm_stream` is about
 pub mod Deframe
 pub mod Stream
-pub mod Calls

@@ -1,11 +1,11 @@
--- Document 01, "Cutting": the uncut reading, of the whole stream at once. It is fed bytes alone, nothing of a state or a buffer
+-- Document 01, "Cutting": the uncut reading, of the whole stream at once. It is fed bytes only, nothing of a state or a buffer
 use Prim.Native.Nat.{ℕ, suc, zero}
 use mathlib.Core.Path.{_≡_}
 use mathlib.Core.List.{List, [], _∷_, _++_}
 use mathlib.Core.Bool.{cond}
 use lib.Dec.{eqb, ltb, leb}
 use lib.ListN.{length, take, drop}
-use Rattle.deframer.specs.Header.{headerError, totalOf}
+use Rattle.fixed_header.specs.Header.{headerError, totalOf}
 use Rattle.deframer.specs.declared.End.{End}
 use Rattle.deframer.specs.declared.End.the-variants.{Clean, Short, Refused}
 
@@ -19,14 +19,14 @@ pub record Uncut : Type 0 where
 abbrev pub stops : End → Uncut
 stops e = record { frames = []; end = e }
 
--- a frame first, and then it goes on behind it
+-- a frame first, and then it goes on after it
 abbrev pub before : List ℕ → Uncut → Uncut
 before frame u = record { frames = frame ∷ u .frames; end = u .end }
 
 -- "With under 16 bytes left it stops: clean if none, else short with their number. If the judge refuses the next 16, it stops with that
 -- number, whatever follows. If their total exceeds what is left, it stops: short with the number left. Otherwise the next bytes, as many
--- as the total, are a frame, .. and it goes on behind them." At most `fuel` steps: `uncut` has more than it needs, and by `enough` how many more
--- says nothing, so the clause for no fuel is never reached
+-- as the total, are a frame, .. and it goes on behind them." At most `fuel` steps: `uncut` has more than it needs, and by `enough` how many
+-- more says nothing, so the clause for no fuel is never reached
 unfoldable pub uncutIn : ℕ → List ℕ → Uncut
 uncutIn zero s = stops Clean
 uncutIn (suc fuel) s =

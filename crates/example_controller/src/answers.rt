@@ -1,14 +1,15 @@
 // How the stream ended, and the answers to its requests.
-use crate::text::part;
-use crate::text::print;
-use crate::text::print_number;
+use crate::print::part;
+use crate::print::print;
+use crate::print::print_bytes;
+use crate::print::print_number;
 use deframer::Deframer;
 use deframer::End;
-use message::Record;
-use message::Response;
-use message::Span;
 use queue::Job;
 use queue::Queue;
+use records::Record;
+use records::Response;
+use records::Span;
 use writer::Encoded;
 
 pub(crate) fn print_end(deframer: Deframer, buffer: &[u8]) {
@@ -49,7 +50,7 @@ pub(crate) fn answer_all(q: Queue) {
 
 // What the last take said: nothing waits, or the queue is not valid.
 fn print_last(error: u32) {
-    if error == queue::ERROR_EMPTY {
+    if error == refusals::QUEUE_EMPTY {
         print(b"nothing waits\n");
         return;
     }
@@ -85,17 +86,4 @@ fn answer(job: Job) {
         Encoded::Refused(_) => print(b" none"),
     }
     print(b"\n");
-}
-
-fn print_bytes(bytes: &[u8]) {
-    for i in 0..bytes.len() {
-        print_byte(bytes[i]);
-    }
-}
-
-// A space and two hexadecimal digits.
-fn print_byte(b: u8) {
-    let digits = b"0123456789abcdef";
-    let text = [b' ', digits[(b / 16) as usize], digits[(b % 16) as usize]];
-    print(&text);
 }

@@ -1,9 +1,9 @@
 // The client: a Feedback frame, which is no request, then four requests, then the beginning of a frame that never gets whole. The
 // jobs are due in the order 2, 1, 3; the second 2 is refused, since 2 waits already.
-use message::Feedback;
-use message::Record;
-use message::Request;
-use message::Span;
+use records::Feedback;
+use records::Record;
+use records::Request;
+use records::Span;
 use writer::Encoded;
 ghost use Prim.Native.Nat.{_≤_};
 
@@ -83,7 +83,7 @@ fn write_request(
     write_frame(request, source, &rows, body, out, at)
 }
 
-// How many bytes stand behind the key and its value.
+// How many bytes follow the key and its value.
 fn name_size(source: &[u8]) -> u32 {
     let size = source.len();
     if size < 5 {
@@ -95,7 +95,7 @@ fn name_size(source: &[u8]) -> u32 {
     (size - 5) as u32
 }
 
-// Writes a frame behind those that stand in the output, and returns the place behind it.
+// Writes a frame after those in the output, and returns the place after it.
 fn write_frame(
     record: Record,
     source: &[u8],

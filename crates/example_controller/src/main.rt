@@ -3,13 +3,13 @@
 // queued for each. Then the jobs are taken, the one that is due first before the others, and each is answered with a response.
 mod answers;
 mod client;
+mod print;
 mod requests;
-mod text;
 
 use deframer::Deframer;
 use deframer::Progress;
+use print::part;
 use queue::Queue;
-use text::part;
 
 // Room for the client's stream.
 const STREAM: usize = 1024;
@@ -72,14 +72,14 @@ fn receive_piece(
         let step = deframer::deframe(c.deframer, buffer, part(piece, from, piece.len()));
         let progress = step.progress;
         let next = step.next;
-        from = behind(from, step.taken, piece.len());
+        from = after(from, step.taken, piece.len());
         c = received(c, next, progress, buffer, rows, now);
     }
     c
 }
 
-// The place behind what was taken.
-fn behind(from: usize, taken: usize, end: usize) -> usize {
+// The place after what was taken.
+fn after(from: usize, taken: usize, end: usize) -> usize {
     if end < from {
         return end;
     }

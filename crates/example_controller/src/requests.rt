@@ -1,25 +1,26 @@
 // Frames that are read as requests.
-use crate::text::part;
-use crate::text::print;
-use crate::text::print_number;
-use deframer::FixedHeader;
-use deframer::FrameType;
-use deframer::Parsed;
+use crate::print::part;
+use crate::print::print;
+use crate::print::print_number;
+use fixed_header::FixedHeader;
+use fixed_header::FrameType;
+use fixed_header::Parsed;
 use message::Answer;
-use message::Kind;
 use message::Located;
-use message::Record;
-use message::Request;
-use message::Span;
 use message::read_spans;
 use queue::Queue;
+use records::Record;
+use records::Request;
+use records::Span;
+use schema::Kind;
 
 // The number of the connection that the stream comes on.
 const CONNECTION: u32 = 1;
 
 // Reads a frame as a request and queues a job for it. The deframer has found its header good.
 pub(crate) fn accept(q: Queue, frame: &[u8], rows: &mut [u32], now: u64) -> Queue {
-    let Parsed::Good(header) = deframer::parse_header(part(frame, 0, deframer::HEADER)) else {
+    let Parsed::Good(header) = fixed_header::parse_header(part(frame, 0, fixed_header::HEADER))
+    else {
         return q;
     };
     print(b"frame of ");
@@ -57,7 +58,7 @@ fn accept_record(
     add(q, request, now)
 }
 
-// Whether a frame may be a request; tells of one that is not.
+// Whether a frame may be a request; reports one that is not.
 fn is_unary(header: FixedHeader) -> bool {
     let frame_type = header.frame_type;
     match frame_type {

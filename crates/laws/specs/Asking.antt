@@ -19,5 +19,7 @@ Contract S = (M : Type 1) (𝓤 : URA M) (H : Heap 𝓤) → Atoms 𝓤 → (Mem
 
 -- whatever the lifetimes and the arguments are, the `requires` is the one that every state meets
 abbrev pub AsksNothing : (S : Signature) → Contract S → Type 2
-AsksNothing S c = (M : Type 1) (𝓤 : URA M) (H : Heap 𝓤) (A : Atoms 𝓤) (mem : Memory → SProp 𝓤) (run : Routine → Fun 𝓤) (κs : Lfts (S .lifetimes)) (a : Args S κs)
+AsksNothing S c =
+    (M : Type 1) (𝓤 : URA M) (H : Heap 𝓤) (A : Atoms 𝓤) (mem : Memory → SProp 𝓤) (run : Routine → Fun 𝓤) (κs : Lfts (S .lifetimes))
+    (a : Args S κs)
     → (bound : c M 𝓤 H A mem run κs a .ghost) × (c M 𝓤 H A mem run κs a .requires bound ≡ emp 𝓤)

@@ -1,2 +1,3 @@
--- What a contract asks of a caller
+-- What a contract asks of a caller, and chains of rules
 pub mod Asking
+pub mod Chains

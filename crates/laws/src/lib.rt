@@ -1,1 +1,1 @@
-// What a contract asks of a caller. A definition, and no code.
+// What a contract asks of a caller, and laws of booleans, tests and lists. Definitions and proofs, and no code.

@@ -1,13 +1,14 @@
 -- Document 01, "The listing": its example, computed. The cutting of its 20 bytes is a row of `thm_examples`
 use mathlib.Core.Path.{_≡_, refl}
 use mathlib.Core.List.{List, [], _∷_, _++_}
-use Rattle.deframer.specs.Header.{be16Of, be32Of, totalOf, headerSizeOf, idOf, headerError, typeOf, parsed}
-use Rattle.deframer.specs.Header.{magicOk, dataTypeOk, streamTypeOk, totalOk, headerSizeOk, reservedOk, faultOf}
-use Rattle.deframer.specs.declared.FixedHeader.{FixedHeader}
-use Rattle.deframer.specs.declared.FrameType.the-variants.{Feedback}
-use Rattle.deframer.specs.declared.Parsed.the-variants.{Good}
+use Rattle.fixed_header.specs.Header.{be16Of, be32Of, totalOf, headerSizeOf, idOf, headerError, typeOf, parsed}
+use Rattle.fixed_header.specs.Header.{magicOk, dataTypeOk, streamTypeOk, totalOk, headerSizeOk, reservedOk, faultOf}
+use Rattle.fixed_header.specs.declared.FixedHeader.{FixedHeader}
+use Rattle.fixed_header.specs.declared.FrameType.the-variants.{Feedback}
+use Rattle.fixed_header.specs.declared.Parsed.the-variants.{Good}
 use Rattle.deframer.specs.declared.End.the-variants.{Short}
-use Rattle.listing.specs.Lines.{placesIn, decimal, frameLine, endLine}
+use Rattle.text.specs.Numbers.{placesIn, decimal}
+use Rattle.listing.specs.Lines.{frameLine, endLine}
 
 abbrev header : FixedHeader
 header = record { «frame_type» = Feedback; total = 19; «header_size» = 0; id = 5 }

@@ -1,5 +1,3 @@
 -- For the proofs of this crate's functions
-mod Decimal
-mod Adding
 mod Listed
 mod Example

@@ -7,11 +7,12 @@ use lib.ListN.{length, take, length-append, length-take}
 use lib.Seq.{take-at, length-take-le}
 use Rattle.deframer.specs.Deframe.{ended}
 use Rattle.deframer.specs.declared.Deframer.{Deframer}
-use Rattle.deframer.specs.declared.FixedHeader.{FixedHeader}
-use Rattle.deframer.specs.declared.Parsed.{Parsed}
-use Rattle.deframer.specs.declared.Parsed.the-variants.{Good, Refused}
+use Rattle.fixed_header.specs.declared.FixedHeader.{FixedHeader}
+use Rattle.fixed_header.specs.declared.Parsed.{Parsed}
+use Rattle.fixed_header.specs.declared.Parsed.the-variants.{Good, Refused}
 use Rattle.deframer.specs.declared.Progress.{Progress}
-use Rattle.listing.specs.Lines.{frameLine, endLine, withText, Adds}
+use Rattle.text.specs.Added.{withText, Adds}
+use Rattle.listing.specs.Lines.{frameLine, endLine}
 use Rattle.listing.specs.Steps.{nextNumber, kept, Lists, ListsFrame, ListsStep}
 use Rattle.listing.specs.declared.Listing.{Listing}
 

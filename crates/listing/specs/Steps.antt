@@ -6,15 +6,16 @@ use mathlib.Core.Bool.{true, false, cond}
 use mathlib.Core.List.{List, _++_}
 use lib.Dec.{leb}
 use lib.ListN.{length, take, drop}
-use Rattle.deframer.specs.Header.{parsed}
+use Rattle.fixed_header.specs.Header.{parsed}
 use Rattle.deframer.specs.Deframe.{fresh, deframed, ended}
 use Rattle.deframer.specs.declared.Deframer.{Deframer}
-use Rattle.deframer.specs.declared.Parsed.{Parsed}
-use Rattle.deframer.specs.declared.Parsed.the-variants as header
+use Rattle.fixed_header.specs.declared.Parsed.{Parsed}
+use Rattle.fixed_header.specs.declared.Parsed.the-variants as header
 use Rattle.deframer.specs.declared.Step.{Step}
 use Rattle.deframer.specs.declared.Progress.{Progress}
 use Rattle.deframer.specs.declared.Progress.the-variants as progress
-use Rattle.listing.specs.Lines.{frameLine, endLine, maxLine, withText}
+use Rattle.text.specs.Added.{withText}
+use Rattle.listing.specs.Lines.{frameLine, endLine, maxLine}
 use Rattle.listing.specs.declared.Listing.{Listing}
 
 -- the text has room for a line, and what is not printed yet is in it

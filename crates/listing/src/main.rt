@@ -3,24 +3,26 @@
 //
 // It reads in pieces, and for an input of any length it has three buffers: a piece of the input, the frame that the
 // deframer fills, and the text to print. An error of a read or a write ends it with a message on standard error.
-mod text;
+mod lines;
 
 use deframer::Deframer;
-use deframer::FixedHeader;
-use deframer::Parsed;
 use deframer::Progress;
 use deframer::Step;
+use fixed_header::FixedHeader;
+use fixed_header::Parsed;
 use libc::STDIN_FILENO;
 use libc::STDOUT_FILENO;
 ghost use mathlib.Core.Path.{_≡_};
 ghost use mathlib.Core.Bool.{true, false};
 ghost use Prim.Native.Nat.{_+_, _≤_, _<_};
 ghost use lib.ListN.{length, take, drop};
-ghost use Rattle.deframer.specs.Header.{parsed, maxFrame};
+ghost use Rattle.fixed_header.specs.Header.{parsed, maxFrame};
 ghost use Rattle.deframer.specs.Deframe.{deframed, ended};
-ghost use Rattle.deframer.specs.Calls.{isRefused};
-ghost use Rattle.listing.specs.Lines.{frameLine, endLine, maxLine, Adds};
+ghost use Rattle.deframer.specs.Deframe.{isRefused};
+ghost use Rattle.text.specs.Added.{Adds};
+ghost use Rattle.listing.specs.Lines.{frameLine, endLine, maxLine};
 ghost use Rattle.listing.specs.Steps.{Text, start, withDeframer, nextNumber, kept, ListsFrame, ListsEnd, ListsStep, ListsPiece};
+ghost use Rattle.listing.specs.Reads.{Printed, ListsNext, ListsInput};
 
 // What is kept from piece to piece: the deframer's state, how many frames were listed, how many bytes of the text are not
 // printed yet, and whether the program is done.
@@ -42,6 +44,7 @@ fn main() {
 // run uses up.
 fn list(piece: &mut [u8], buffer: &mut [u8], text: &mut [u8])
     requires { ⌜ (maxFrame ≤ length (now buffer)) × Text 0 (now text) ⌝ }
+    ensures { λ _. ⌜ ListsInput (now (buffer .entry)) (now (text .entry)) (now (buffer .exit)) (now (text .exit)) ⌝ }
 {
     let mut listing = fresh();
     let mut reads = u64::MAX;
@@ -66,22 +69,25 @@ fn fresh() -> Listing
 // Reads a piece and lists the frames that end in it, or at the end of the input lists the end.
 fn list_next(listing: Listing, piece: &mut [u8], buffer: &mut [u8], text: &mut [u8]) -> Listing
     requires { ⌜ (maxFrame ≤ length (now buffer)) × Text (listing .pending) (now text) ⌝ }
-    ensures { λ r. ⌜ r .pending ≤ length (now (text .entry)) ⌝ }
+    ensures { λ r. ⌜ (r .pending ≤ length (now (text .entry)))
+        × ListsNext listing (now (buffer .entry)) (now (text .entry)) (now (piece .exit)) r (now (buffer .exit)) (now (text .exit)) ⌝ }
 {
     let got = libc::read(STDIN_FILENO, piece);
     if got < 0 {
-        os::fail(b"listing: standard input");
-        return stopped(listing);
+        return input_failed(listing);
     }
     if got == 0 {
         return list_end(listing, buffer, text);
     }
     let n = io::count(got, piece);
-    let listed = list_piece(listing, &piece[..n], buffer, text);
-    if listed.done {
-        return listed;
-    }
-    print(listed, text)
+    print(list_piece(listing, &piece[..n], buffer, text), text)
+}
+
+fn input_failed(listing: Listing) -> Listing
+    ensures { λ r. ⌜ (r .pending ≡ listing .pending) × (r .done ≡ true) ⌝ }
+{
+    os::fail(b"listing: standard input");
+    stopped(listing)
 }
 
 // Lists the frames that end in the piece. A refused header in it is the end of what is listed.
@@ -141,7 +147,7 @@ fn list_frame(listing: Listing, buffer: &[u8], text: &mut [u8]) -> Listing
     ensures { λ r. ⌜ (r .pending ≤ length (now (text .entry)))
         × ListsFrame (parsed (take 16 (now (buffer .entry)))) listing (now (text .entry)) r (now (text .exit)) ⌝ }
 {
-    let Parsed::Good(header) = deframer::parse_header(&buffer[..deframer::HEADER]) else {
+    let Parsed::Good(header) = fixed_header::parse_header(&buffer[..fixed_header::HEADER]) else {
         return listing;
     };
     add_frame(with_room(listing, text), header, text)
@@ -155,7 +161,7 @@ fn add_frame(listing: Listing, header: FixedHeader, text: &mut [u8]) -> Listing
 {
     let mut listed = listing;
     listed.frames = std::num::wrapping_add_u64(listed.frames, 1);
-    listed.pending = text::frame_line(text, listed.pending, listed.frames, header);
+    listed.pending = lines::frame_line(text, listed.pending, listed.frames, header);
     listed
 }
 
@@ -177,7 +183,7 @@ fn add_end(listing: Listing, buffer: &[u8], text: &mut [u8]) -> Listing
 {
     let mut listed = listing;
     let end = deframer::finish(listed.deframer, buffer);
-    listed.pending = text::end_line(text, listed.pending, end);
+    listed.pending = lines::end_line(text, listed.pending, end);
     listed
 }
 
@@ -187,16 +193,16 @@ fn with_room(listing: Listing, text: &[u8]) -> Listing
     ensures { λ r. ⌜ (r .pending + maxLine ≤ length (now (text .entry))) × (r .frames ≡ listing .frames) × (r .deframer ≡ listing .deframer)
         × (r .pending ≡ kept listing (now (text .entry))) ⌝ }
 {
-    if text::LINE <= text.len() - listing.pending {
+    if lines::LINE <= text.len() - listing.pending {
         return listing;
     }
     print(listing, text)
 }
 
-// Prints the text, unless a write failed before.
+// Prints the text, unless the listing is done.
 fn print(listing: Listing, text: &[u8]) -> Listing
     requires { ⌜ listing .pending ≤ length (now text) ⌝ }
-    ensures { λ r. ⌜ (r .pending ≡ 0) × (r .frames ≡ listing .frames) × (r .deframer ≡ listing .deframer) ⌝ }
+    ensures { λ r. ⌜ Printed listing r ⌝ }
 {
     let pending = listing.pending;
     let mut printed = listing;
@@ -204,11 +210,20 @@ fn print(listing: Listing, text: &[u8]) -> Listing
     if listing.done {
         return printed;
     }
-    if !io::write_all(STDOUT_FILENO, &text[..pending]) {
-        os::fail(b"listing: standard output");
-        printed.done = true;
-    }
+    printed.done = !written(text, pending);
     printed
+}
+
+// Writes the first bytes of the text. Where that fails, it says so on standard error.
+fn written(text: &[u8], n: usize) -> bool
+    requires { ⌜ n ≤ length (now text) ⌝ }
+{
+    let start = 0;
+    if io::write_all(STDOUT_FILENO, &text[start..n]) {
+        return true;
+    }
+    os::fail(b"listing: standard output");
+    false
 }
 
 fn stopped(listing: Listing) -> Listing

@@ -7,5 +7,5 @@ use Rattle.message.proofs as entry
 pub read-spans : AsksNothing entry.read_spans.signature (λ M. entry.read_spans.spec)
 read-spans M 𝓤 H A mem run κs a = (tt, refl)
 
-pub record-of : AsksNothing entry.records.record_of.signature (λ M. entry.records.record_of.spec)
-record-of M 𝓤 H A mem run κs a = (tt, refl)
+pub bytes-at : AsksNothing entry.bytes_at.signature (λ M. entry.bytes_at.spec)
+bytes-at M 𝓤 H A mem run κs a = (tt, refl)

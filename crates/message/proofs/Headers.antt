@@ -1,4 +1,4 @@
--- What the fixed header of a frame tells of the frame
+-- What the fixed header of a frame says of the frame
 use Prim.Native.Nat.{ℕ, _+_, _-_, _≤_, _<_}
 use mathlib.Core.Path.{_≡_, refl, ap, _∙_}
 use mathlib.Core.Bool.{Bool, true, false, cond}
@@ -8,10 +8,12 @@ use borrow.Author.Tests.{eqb-true, eqb-false, leb-true}
 use lib.Dec.{eqb, leb}
 use lib.ListN.{length, take, getD}
 use lib.Seq.{getD-take}
-use Rattle.deframer.specs.Header.{maxFrame, be16Of, be32Of, totalOf, headerSizeOf, idOf, magicOk, dataTypeOk, streamTypeOk, totalOk, headerSizeOk, faultOf, headerError, typeOf, parsed}
-use Rattle.deframer.specs.declared.FixedHeader.{FixedHeader}
-use Rattle.deframer.specs.declared.Parsed.the-variants.{Good, Refused}
-use Rattle.deframer.proofs.Codes.{kept, good-total}
+use Rattle.fixed_header.specs.Header.{maxFrame, be16Of, be32Of, totalOf, headerSizeOf, idOf, magicOk, dataTypeOk}
+use Rattle.fixed_header.specs.Header.{streamTypeOk, totalOk, headerSizeOk, faultOf, headerError, typeOf, parsed}
+use Rattle.fixed_header.specs.declared.FixedHeader.{FixedHeader}
+use Rattle.fixed_header.specs.declared.Parsed.the-variants.{Good, Refused}
+use Rattle.laws.proofs.Booleans.{kept}
+use Rattle.fixed_header.proofs.Codes.{good-total}
 
 -- ---- the numbers of the first 16 bytes are the frame's
 be16-take : (f : List ℕ) (at : ℕ) → at + 1 < 16 → be16Of (take 16 f) at ≡ be16Of f at

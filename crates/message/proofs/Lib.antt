@@ -3,10 +3,11 @@ pub mod SpansStand
 -- For the layers above
 pub mod Readings
 -- For the proofs of this crate's functions
-mod Signed
 mod Headers
 mod PartPlaces
 mod Messages
 mod WholeFrames
 -- Demand 1, of every public entry
 pub mod AsksNothing
+-- The meaning of a record, in parts
+pub mod MeaningLaws

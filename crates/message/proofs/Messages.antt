@@ -6,22 +6,24 @@ use native.Mathlib.Omega.{arith}
 use borrow.Author.Tests.{le-leb, lt-leb}
 use lib.ListN.{length, drop, replicate, length-drop}
 use lib.Seq.{length-take-le}
-use Rattle.deframer.specs.Header.{headerSizeOf, idOf}
+use Rattle.fixed_header.specs.Header.{headerSizeOf, idOf}
 use Rattle.wire_read.specs.Part.{part}
-use Rattle.decoder.specs.Schema.{schemaAt}
+use Rattle.schema.specs.Schema.{schemaAt}
 use Rattle.decoder.specs.Rows.{Row, rowNumbers, laidOut, rowsCleared}
 use Rattle.decoder.specs.Fields.{State, Result, ok, refused, readMessage}
 use Rattle.decoder.specs.Decoding.{decoded}
 use Rattle.decoder.specs.declared.Decoded.{Decoded}
 use Rattle.decoder.proofs.RowLaws.{drop-laid, length-laid}
 use Rattle.decoder.proofs.Answers.{Gives, Read, Decodes, decodes, all-cleared}
-use Rattle.message.specs.Records.{schemaOf, recordOf, attachmentSizeOf}
+use Rattle.schema.specs.Kinds.{schemaOf, schemaNumber}
+use Rattle.schema.proofs.KindLaws.{numbered}
+use Rattle.records.specs.Records.{recordOf, attachmentSizeOf}
 use Rattle.message.specs.Frames.{Reading, headerOf, bodyOf, lastBytes, refusedUntouched, withAttachment, answered, readFrame}
 use Rattle.message.specs.Spans.{spanFrom}
 use Rattle.message.specs.Parts.{PartsOf, noParts, bodyAt, Whole}
-use Rattle.message.specs.declared.Kind.{Kind}
+use Rattle.schema.specs.declared.Kind.{Kind}
 use Rattle.message.specs.declared.Answer.the-variants as answers
-use Rattle.message.specs.declared.Record.{Record}
+use Rattle.records.specs.declared.Record.{Record}
 use Rattle.message.specs.declared.frames.Parts.{Parts}
 use Rattle.message.proofs.Readings.{its-message}
 use Rattle.message.proofs.PartPlaces.{frame-size, within, length-last, header-part, body-rest}
@@ -38,11 +40,13 @@ none code size numbers =
       attachment-at = refl;
     }
 
-pub refusal : {x : Reading} {size : ℕ} {numbers : List ℕ} {p : Parts} {code : ℕ} → x ≡ refusedUntouched code numbers → p ≡ noParts code → PartsOf x size p numbers
+pub refusal : {x : Reading} {size : ℕ} {numbers : List ℕ} {p : Parts} {code : ℕ} → x ≡ refusedUntouched code numbers → p ≡ noParts code
+    → PartsOf x size p numbers
 refusal {size} {numbers} {p} {code} e g =
-    subst (λ (x : Reading). PartsOf x size p numbers) (sym e) (subst (λ (p : Parts). PartsOf (refusedUntouched code numbers) size p numbers) (sym g) (none code size numbers))
+    subst (λ (x : Reading). PartsOf x size p numbers) (sym e)
+    (subst (λ (p : Parts). PartsOf (refusedUntouched code numbers) size p numbers) (sym g) (none code size numbers))
 
--- ---- what the decoder's answer tells of the reading x of a message
+-- ---- what the decoder's answer says of the reading x of a message
 abbrev error-of : Decoded → ℕ
 error-of d = d .error
 
@@ -63,7 +67,8 @@ succeeded (ok st) d numbers lent r e = (st, refl, r)
 succeeded (refused code) d numbers lent r e = absurd (omega (arith, ap error-of (r .answer-is), r .some-code))
 
 -- rows that are cleared again
-cleared-again : (rows : List Row) (lent : List ℕ) → length rows ≤ 64 → rowNumbers ≤ length lent → rowsCleared (laidOut rows lent) ≡ laidOut [] lent
+cleared-again : (rows : List Row) (lent : List ℕ) → length rows ≤ 64 → rowNumbers ≤ length lent → rowsCleared (laidOut rows lent)
+    ≡ laidOut [] lent
 cleared-again rows lent few long =
     all-cleared (laidOut rows lent) (rw (length-laid rows lent few long) long)
     ∙ ap (λ (x : List ℕ). replicate rowNumbers 0 ++ x) (drop-laid rows lent few)
@@ -81,7 +86,8 @@ module _ (kind : Kind) (f lent : List ℕ) (st : State) where
   unfolding answered withAttachment
   attached h = rw (le-leb (attachmentSizeOf kind (st .slots)) (length (bodyOf kind f)) h)
 
-  too-large : length (bodyOf kind f) < attachmentSizeOf kind (st .slots) → answered kind f lent (ok st) ≡ refusedUntouched 15 (laidOut [] lent)
+  too-large : length (bodyOf kind f) < attachmentSizeOf kind (st .slots) → answered kind f lent (ok st)
+      ≡ refusedUntouched 15 (laidOut [] lent)
   unfolding answered withAttachment
   too-large h = rw (lt-leb (attachmentSizeOf kind (st .slots)) (length (bodyOf kind f)) h)
 
@@ -97,7 +103,8 @@ end-span {size} {start} {n} h e =
 
 -- ---- the reading of a whole frame: the code's body place, schema number, and what the decoder answered
 module _ (kind : Kind) (f lent : List ℕ) (size id body n : ℕ) (d : Decoded) (numbers : List ℕ)
-    (rows : rowNumbers ≤ length lent) (whole : Whole kind f size id) (body-is : body ≡ bodyAt kind size (length f)) (schema-is : schemaAt n ≡ schemaOf kind)
+    (rows : rowNumbers ≤ length lent) (whole : Whole kind f size id) (body-is : body ≡ bodyAt kind size (length f))
+    (schema-is : n ≡ schemaNumber kind)
     (gave : Gives (decoded f 16 body n lent) d numbers) where
   place : body ≡ bodyAt kind (headerSizeOf f) (length f)
   place = body-is ∙ ap (λ (m : ℕ). bodyAt kind m (length f)) (whole .size-is)
@@ -122,7 +129,8 @@ module _ (kind : Kind) (f lent : List ℕ) (size id body n : ℕ) (d : Decoded) 
 
   its : Decodes result d numbers lent
   unfolding result
-  its = rw (← schema-is, ← head) (decodes f 16 body n lent d numbers rows (frame-size kind f size id whole .1) gave)
+  its = rw (← (ap schemaAt schema-is ∙ numbered kind), ← head)
+      (decodes f 16 body n lent d numbers rows (frame-size kind f size id whole .1) gave)
 
   answer : readFrame kind f lent ≡ answered kind f lent result
   unfolding result
@@ -137,19 +145,23 @@ module _ (kind : Kind) (f lent : List ℕ) (size id body n : ℕ) (d : Decoded) 
       let (e, zeros) = failed result d numbers lent its n in
       refusal (answer ∙ ap (answered kind f lent) e ∙ ap (refusedUntouched (d .error)) (sym zeros)) g
 
-  pub attachment-refused : {p : Parts} {a : ℕ} {last : List ℕ} → d .error ≡ 0 → a ≡ attachmentSizeOf kind (d .slots .values) → length f - body < a
+  pub attachment-refused : {p : Parts} {a : ℕ} {last : List ℕ} → d .error ≡ 0 → a ≡ attachmentSizeOf kind (d .slots .values)
+      → length f - body < a
       → last ≡ rowsCleared numbers → p ≡ noParts 15 → PartsOf (readFrame kind f lent) (length f) p last
   attachment-refused {a} e is-a large last g =
       let (st, x, r) = succeeded result d numbers lent its e in
       let a-is : a ≡ attachmentSizeOf kind (st .slots) = is-a ∙ ap (attachmentSizeOf kind) (ap values-of (r .answer-is)) in
       let same = last ∙ ap rowsCleared (r .laid) ∙ cleared-again (st .rows) lent (r .few) rows in
       refusal
-      (answer ∙ ap (answered kind f lent) x ∙ too-large kind f lent st (omega (arith, body-length, a-is)) ∙ ap (refusedUntouched 15) (sym same))
+      (answer ∙ ap (answered kind f lent) x ∙ too-large kind f lent st (omega (arith, body-length, a-is))
+      ∙ ap (refusedUntouched 15) (sym same))
       g
 
   pub message-read : {r : Record} {a : ℕ} → d .error ≡ 0 → a ≡ attachmentSizeOf kind (d .slots .values) → a ≤ length f - body
       → r ≡ recordOf kind id (d .slots .values) (d .slots .rows)
-      → PartsOf (readFrame kind f lent) (length f) (record { answer = answers.Read r; places = record { header = 16; body = body; attachment = length f - a; end = length f } }) numbers
+      → PartsOf (readFrame kind f lent) (length f)
+      (record { answer = answers.Read r; places = record { header = 16; body = body; attachment = length f - a; end = length f } })
+      numbers
   message-read {a} e is-a fits is-r =
       let (st, x, k) = succeeded result d numbers lent its e in
       let a-is : a ≡ attachmentSizeOf kind (st .slots) = is-a ∙ ap (attachmentSizeOf kind) (ap values-of (k .answer-is)) in
@@ -163,5 +175,6 @@ module _ (kind : Kind) (f lent : List ℕ) (size id body n : ℕ) (d : Decoded) 
         attachment-at =
             end-span
             (omega arith)
-            (length-last (attachmentSizeOf kind (st .slots)) (bodyOf kind f) (omega (arith, body-length, a-is)) ∙ omega (arith, a-is, bounds));
+            (length-last (attachmentSizeOf kind (st .slots)) (bodyOf kind f) (omega (arith, body-length, a-is))
+            ∙ omega (arith, a-is, bounds));
       })

@@ -1,17 +1,17 @@
--- Where the parts of a whole frame stand
+-- Where the parts of a whole frame are
 use Prim.Native.Nat.{ℕ, _+_, _-_, _≤_}
 use mathlib.Core.Path.{_≡_, refl, sym, _∙_}
 use mathlib.Core.List.{List}
 use native.Mathlib.Omega.{arith}
 use lib.ListN.{length, drop, length-drop}
 use lib.Seq.{drop-length}
-use Rattle.deframer.specs.Header.{maxFrame, headerSizeOf}
+use Rattle.fixed_header.specs.Header.{maxFrame, headerSizeOf}
 use Rattle.wire_read.specs.Part.{part}
 use Rattle.decoder.proofs.PartEnds.{part-rest}
 use Rattle.message.specs.Frames.{headerOf, bodyOf, lastBytes}
 use Rattle.message.specs.Parts.{bodyAt, Whole}
-use Rattle.message.specs.declared.Kind.{Kind}
-use Rattle.message.specs.declared.Kind.the-variants as kinds
+use Rattle.schema.specs.declared.Kind.{Kind}
+use Rattle.schema.specs.declared.Kind.the-variants as kinds
 use Rattle.message.proofs.Headers.{good-size, good-whole}
 
 module _ (kind : Kind) (f : List ℕ) (size id : ℕ) (whole : Whole kind f size id) where

@@ -1,5 +1,5 @@
--- The bytes of the frame at a part's start and length are the part: `spans-stand`, for every frame, kind and lent row numbers, refused ones too. It
--- rules out a span of the right length at another place, and one that reaches past the frame.
+-- The bytes of the frame at a part's start and length are the part: `spans-stand`, for every frame, kind and lent row numbers, refused
+-- ones too. It rules out a span of the right length at another place, and one that reaches past the frame.
 use Prim.Native.Nat.{ℕ, _+_, _-_}
 use mathlib.Core.Path.{_≡_, refl, sym, ap, _∙_}
 use mathlib.Core.Bool.{Bool, true, false, cond, _&&_}
@@ -9,22 +9,24 @@ use borrow.Author.Tests.{eqb-true, ltb-true, ltb-false}
 use lib.Dec.{eqb, ltb, leb}
 use lib.ListN.{length, take, drop, getD, length-drop, drop-of-length-le}
 use lib.Seq.{length-take-le, take-all, drop-drop, drop-length}
-use Rattle.deframer.specs.Header.{headerError, totalOf, headerSizeOf, idOf}
+use Rattle.fixed_header.specs.Header.{headerError, totalOf, headerSizeOf, idOf}
 use Rattle.decoder.specs.Rows.{rowNumbers, laidOut}
 use Rattle.decoder.specs.Fields.{Result, ok, refused, readMessage}
-use Rattle.message.specs.Records.{schemaOf, recordOf, attachmentSizeOf}
-use Rattle.message.specs.Frames.{Reading, headerOf, bodyOf, lastBytes, kindFits, refusedUntouched, withAttachment, answered, readFrame}
+use Rattle.schema.specs.Kinds.{schemaOf}
+use Rattle.records.specs.Records.{recordOf, attachmentSizeOf}
+use Rattle.message.specs.Frames.{Reading, headerOf, bodyOf, lastBytes, kindFits}
+use Rattle.message.specs.Frames.{refusedUntouched, withAttachment, answered, readFrame}
 use Rattle.message.specs.Spans.{spanFrom, bytesAt, spansOf}
 use Rattle.message.specs.declared.Answer.the-variants.{Read}
-use Rattle.message.specs.declared.Kind.{Kind}
-use Rattle.message.specs.declared.Kind.the-variants as kinds
+use Rattle.schema.specs.declared.Kind.{Kind}
+use Rattle.schema.specs.declared.Kind.the-variants as kinds
 
 pub record Stands (f : List ℕ) (x : Reading) : Type 0 where
   pub header-stands : bytesAt f (spansOf x (length f) .header) ≡ x .header
   pub body-stands : bytesAt f (spansOf x (length f) .body) ≡ x .body
   pub attachment-stands : bytesAt f (spansOf x (length f) .attachment) ≡ x .attachment
 
--- ---- a part behind the 16 bytes, and parts that end with the frame
+-- ---- a part after the 16 bytes, and parts that end with the frame
 taken : (n : ℕ) (l : List ℕ) → take (length (take n l)) l ≡ take n l
 taken n l = by (ltb n (length l)) refl
   where

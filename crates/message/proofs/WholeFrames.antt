@@ -4,20 +4,21 @@ use mathlib.Core.Path.{_≡_, sym, ap, _∙_}
 use mathlib.Core.Bool.{true, false}
 use mathlib.Core.List.{List}
 use lib.ListN.{length, take, getD}
-use Rattle.deframer.specs.Header.{parsed}
-use Rattle.deframer.specs.declared.FixedHeader.{FixedHeader}
-use Rattle.deframer.specs.declared.Parsed.the-variants.{Good, Refused}
+use Rattle.fixed_header.specs.Header.{parsed}
+use Rattle.fixed_header.specs.declared.FixedHeader.{FixedHeader}
+use Rattle.fixed_header.specs.declared.Parsed.the-variants.{Good, Refused}
 use Rattle.message.specs.Frames.{kindFits, refusedUntouched, readFrame}
 use Rattle.decoder.specs.Rows.{rowNumbers}
 use Rattle.message.specs.Parts.{PartsOf, noParts, Whole}
-use Rattle.message.specs.declared.Kind.{Kind}
+use Rattle.schema.specs.declared.Kind.{Kind}
 use Rattle.message.specs.declared.frames.Parts.{Parts}
 use Rattle.message.proofs.Headers.{parsed-good, parsed-refused}
 use Rattle.message.proofs.Readings.{bad-header, not-whole, other-kind}
 use Rattle.message.proofs.Messages.{refusal}
 
 module _ (kind : Kind) (f lent : List ℕ) (rows : rowNumbers ≤ length lent) (long : 16 ≤ length f) where
-  pub header-refused : {p : Parts} (code : ℕ) → Refused code ≡ parsed (take 16 f) → p ≡ noParts code → PartsOf (readFrame kind f lent) (length f) p lent
+  pub header-refused : {p : Parts} (code : ℕ) → Refused code ≡ parsed (take 16 f) → p ≡ noParts code
+      → PartsOf (readFrame kind f lent) (length f) p lent
   header-refused code e g =
       let (bad, code-is) = parsed-refused f code e in
       refusal (bad-header kind f lent rows long bad ∙ ap (λ (n : ℕ). refusedUntouched n lent) (sym code-is)) g

@@ -4,11 +4,11 @@ use mathlib.Core.Path.{_≡_}
 use mathlib.Core.Bool.{true}
 use mathlib.Core.List.{List}
 use lib.ListN.{length, take, getD}
-use Rattle.deframer.specs.Header.{maxFrame, headerError, totalOf, headerSizeOf, idOf}
+use Rattle.fixed_header.specs.Header.{maxFrame, headerError, totalOf, headerSizeOf, idOf}
 use Rattle.message.specs.Frames.{Reading, kindFits}
 use Rattle.message.specs.Spans.{spanFrom, spansOf}
-use Rattle.message.specs.declared.Kind.{Kind}
-use Rattle.message.specs.declared.Kind.the-variants as kinds
+use Rattle.schema.specs.declared.Kind.{Kind}
+use Rattle.schema.specs.declared.Kind.the-variants as kinds
 use Rattle.message.specs.declared.Answer.the-variants.{Refused}
 use Rattle.message.specs.declared.frames.Parts.{Parts}
 

@@ -1,31 +1,33 @@
-// A frame read as a kind: which frames fit it, what its message says and where its parts stand.
+// A frame read as a kind: which frames fit it, what its message says and where its parts are.
 use crate::Answer;
-use crate::Kind;
-use crate::Span;
-use crate::records::attachment_size;
-use crate::records::record_of;
 use decoder::ROW_NUMBERS;
 use decoder::clear_rows;
 use decoder::decode;
-use deframer::FixedHeader;
-use deframer::HEADER;
-use deframer::Parsed;
-use deframer::parse_header;
+use fixed_header::FixedHeader;
+use fixed_header::HEADER;
+use fixed_header::Parsed;
+use fixed_header::parse_header;
+use records::Span;
+use records::record_of;
+use refusals::BAD_BODY;
+use refusals::ROWS_SHORT;
+use refusals::WRONG_FRAME;
+use schema::Kind;
+use schema::schema_number;
 ghost use mathlib.Core.Path.{_≡_};
 ghost use Prim.Native.Nat.{_+_, _-_, _≤_};
 ghost use lib.ListN.{length, take};
 ghost use lib.Dec.{eqb};
 ghost use mathlib.Core.Bool.{_&&_};
-ghost use Rattle.deframer.specs.Header.{maxFrame, parsed};
-ghost use Rattle.deframer.specs.declared.Parsed.the-variants.{Good};
+ghost use Rattle.fixed_header.specs.Header.{maxFrame, parsed};
+ghost use Rattle.fixed_header.specs.declared.Parsed.the-variants.{Good};
+ghost use Rattle.records.specs.Records.{attachmentSizeOf};
 ghost use Rattle.message.specs.Frames.{kindFits, readFrame};
-ghost use Rattle.decoder.specs.Schema.{schemaAt};
 ghost use Rattle.decoder.specs.Rows.{rowNumbers};
-ghost use Rattle.message.specs.Records.{schemaOf};
 ghost use Rattle.message.specs.Spans.{spanFrom};
 ghost use Rattle.message.specs.Parts.{PartsOf, noParts, bodyAt, Whole};
 
-// Where the parts of a frame stand: the header up to the body, the body and the attachment up to the end. All are 0 where the
+// Where the parts of a frame are: the header up to the body, the body and the attachment up to the end. All are 0 where the
 // frame is refused.
 pub(crate) struct Places {
     pub header: usize,
@@ -77,21 +79,7 @@ fn is_stream(data_type: u8, stream_type: u8, wanted: u8) -> bool
     stream_type == wanted
 }
 
-// The number by which the decoder knows the message of a kind.
-fn schema_number(kind: Kind) -> u32
-    ensures { λ r. ⌜ schemaAt r ≡ schemaOf kind ⌝ }
-{
-    match kind {
-        Kind::Request => decoder::REQUEST,
-        Kind::Response => decoder::RESPONSE,
-        Kind::Init => decoder::INIT,
-        Kind::Data => decoder::DATA,
-        Kind::Feedback => decoder::FEEDBACK,
-        Kind::Close => decoder::CLOSE,
-    }
-}
-
-// The place behind the header: the message of a stream frame is its header, and Data has only a body.
+// The place after the header: the message of a stream frame is its header, and Data has only a body.
 fn body_at(kind: Kind, header_size: usize, size: usize) -> usize
     requires { ⌜ «header_size» ≤ 65535 ⌝ }
     ensures { λ r. ⌜ r ≡ bodyAt kind «header_size» size ⌝ }
@@ -106,10 +94,25 @@ fn body_at(kind: Kind, header_size: usize, size: usize) -> usize
     }
 }
 
+// The attachment size that a request or a response names; 0 of the other kinds.
+fn attachment_size(kind: Kind, v: [u32; 16]) -> u32
+    ensures { λ r. ⌜ r ≡ attachmentSizeOf kind v ⌝ }
+{
+    match kind {
+        Kind::Request => v[13],
+        Kind::Response => v[10],
+        Kind::Init => 0,
+        Kind::Data => 0,
+        Kind::Feedback => 0,
+        Kind::Close => 0,
+    }
+}
+
 // The message of a frame that is whole and of its kind.
 fn read_message(kind: Kind, frame: &[u8], header_size: usize, id: u32, rows: &mut [u32]) -> Parts
     requires { ⌜ (rowNumbers ≤ length (now rows)) × Whole kind (now frame) «header_size» id ⌝ }
-    ensures { λ r. ⌜ PartsOf (readFrame kind (now (frame .entry)) (now (rows .entry))) (length (now (frame .entry))) r (now (rows .exit)) ⌝ }
+    ensures { λ r. ⌜ PartsOf (readFrame kind (now (frame .entry)) (now (rows .entry))) (length (now (frame .entry)))
+        r (now (rows .exit)) ⌝ }
 {
     let size = frame.len();
     let body = body_at(kind, header_size, size);
@@ -123,7 +126,7 @@ fn read_message(kind: Kind, frame: &[u8], header_size: usize, id: u32, rows: &mu
     let attachment = attachment_size(kind, values) as usize;
     if size - body < attachment {
         clear_rows(rows);
-        return refused(15);
+        return refused(BAD_BODY);
     }
     Parts {
         answer: Answer::Read(record_of(kind, id, values, slots.rows as u32)),
@@ -139,26 +142,28 @@ fn read_message(kind: Kind, frame: &[u8], header_size: usize, id: u32, rows: &mu
 // A frame with a good fixed header.
 fn read_whole(kind: Kind, frame: &[u8], header: FixedHeader, rows: &mut [u32]) -> Parts
     requires { ⌜ (rowNumbers ≤ length (now rows)) × (16 ≤ length (now frame)) × (Good header ≡ parsed (take 16 (now frame))) ⌝ }
-    ensures { λ r. ⌜ PartsOf (readFrame kind (now (frame .entry)) (now (rows .entry))) (length (now (frame .entry))) r (now (rows .exit)) ⌝ }
+    ensures { λ r. ⌜ PartsOf (readFrame kind (now (frame .entry)) (now (rows .entry))) (length (now (frame .entry)))
+        r (now (rows .exit)) ⌝ }
 {
     if frame.len() != header.total {
-        return refused(9);
+        return refused(WRONG_FRAME);
     }
     if !kind_fits(kind, frame[2], frame[3]) {
-        return refused(9);
+        return refused(WRONG_FRAME);
     }
     read_message(kind, frame, header.header_size, header.id, rows)
 }
 
 // A frame read as a kind: the order of the error codes is 16; 9 for fewer than 16 bytes; 3 to 8; 9; 10 to 14; 15.
 pub(crate) fn read_parts(kind: Kind, frame: &[u8], rows: &mut [u32]) -> Parts
-    ensures { λ r. ⌜ PartsOf (readFrame kind (now (frame .entry)) (now (rows .entry))) (length (now (frame .entry))) r (now (rows .exit)) ⌝ }
+    ensures { λ r. ⌜ PartsOf (readFrame kind (now (frame .entry)) (now (rows .entry))) (length (now (frame .entry)))
+        r (now (rows .exit)) ⌝ }
 {
     if rows.len() < ROW_NUMBERS {
-        return refused(16);
+        return refused(ROWS_SHORT);
     }
     if frame.len() < HEADER {
-        return refused(9); // "fewer than 16 bytes is 9"
+        return refused(WRONG_FRAME); // "fewer than 16 bytes is 9"
     }
     let fixed = parse_header(&frame[..HEADER]);
     match fixed {

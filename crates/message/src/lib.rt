@@ -1,114 +1,16 @@
 // The tRPC messages: what a frame says, read as one of six kinds.
 mod frames;
-pub mod records;
 
 use frames::read_parts;
 use frames::span;
+use records::Record;
+use records::Span;
+use schema::Kind;
 ghost use mathlib.Core.Path.{_≡_};
+ghost use Prim.Native.Nat.{min};
 ghost use lib.ListN.{length};
 ghost use Rattle.message.specs.Frames.{readFrame};
-ghost use Rattle.message.specs.Spans.{spansOf};
-
-// What the caller expects a frame to be. A unary frame does not say whether it is a request or a response.
-pub enum Kind {
-    Request,
-    Response,
-    Init,
-    Data,
-    Feedback,
-    Close,
-}
-
-// A byte field: where it starts in the frame, and how long it is; an empty one is 0, 0.
-pub struct Span {
-    pub start: u32,
-    pub len: u32,
-}
-
-pub struct Request {
-    pub id: u32,
-    pub version: u32,
-    pub call_type: u32,
-    pub request_id: u32,
-    pub timeout: u32,
-    pub caller: Span,
-    pub callee: Span,
-    pub func: Span,
-    pub message_type: u32,
-    pub content_type: u32,
-    pub content_encoding: u32,
-    pub attachment_size: u32,
-    pub rows: u32,
-}
-
-pub struct Response {
-    pub id: u32,
-    pub version: u32,
-    pub call_type: u32,
-    pub request_id: u32,
-    pub ret: i32,
-    pub func_ret: i32,
-    pub error_msg: Span,
-    pub message_type: u32,
-    pub content_type: u32,
-    pub content_encoding: u32,
-    pub attachment_size: u32,
-    pub rows: u32,
-}
-
-pub struct RequestMeta {
-    pub present: bool,
-    pub caller: Span,
-    pub callee: Span,
-    pub func: Span,
-    pub message_type: u32,
-}
-
-pub struct ResponseMeta {
-    pub present: bool,
-    pub ret: i32,
-    pub error_msg: Span,
-}
-
-pub struct Init {
-    pub id: u32,
-    pub request_meta: RequestMeta,
-    pub response_meta: ResponseMeta,
-    pub init_window_size: u32,
-    pub content_type: u32,
-    pub content_encoding: u32,
-    pub rows: u32,
-}
-
-pub struct Data {
-    pub id: u32,
-    pub rows: u32,
-}
-
-pub struct Feedback {
-    pub id: u32,
-    pub window_size_increment: u32,
-    pub rows: u32,
-}
-
-pub struct Close {
-    pub id: u32,
-    pub close_type: i32,
-    pub ret: i32,
-    pub msg: Span,
-    pub message_type: u32,
-    pub func_ret: i32,
-    pub rows: u32,
-}
-
-pub enum Record {
-    Request(Request),
-    Response(Response),
-    Init(Init),
-    Data(Data),
-    Feedback(Feedback),
-    Close(Close),
-}
+ghost use Rattle.message.specs.Spans.{bytesAt, placeAfter, spansOf};
 
 // What a frame reads as: its record, or the error code.
 pub enum Answer {
@@ -138,4 +40,21 @@ pub fn read_spans(kind: Kind, frame: &[u8], rows: &mut [u32]) -> Located
         body: span(places.body, places.end),
         attachment: span(places.attachment, places.end),
     }
+}
+
+// The bytes of the frame that a span names, as far as they exist.
+pub fn bytes_at(frame: &[u8], span: Span) -> &[u8]
+    ensures { λ r. ⌜ (now r ≡ bytesAt (now (frame .entry)) span)
+        × (r .ptr ≡ placeAfter (frame .entry .ptr) (min (span .start) (length (now (frame .entry))))) ⌝ }
+{
+    let start = span.start as usize;
+    let end = start + span.len as usize;
+    let size = frame.len();
+    if size <= start {
+        return &frame[size..];
+    }
+    if size < end {
+        return &frame[start..];
+    }
+    &frame[start..end]
 }

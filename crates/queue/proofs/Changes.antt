@@ -5,15 +5,13 @@ use mathlib.Core.Path.{_≡_, refl, sym, _∙_}
 use mathlib.Core.Bool.{Bool, false}
 use mathlib.Core.List.{List, [], _∷_}
 use native.Mathlib.Omega.{arith}
-use native.Mathlib.Decide.{ℕ-discrete}
-use borrow.Author.Tests.{eq-eqb, ne-eqb}
-use lib.Dec.{eqb}
-use lib.ListN.{length, take, drop, length-append, length-drop}
-use lib.Seq.{length-take-le, take-at}
+use lib.ListN.{length, take, drop, set, length-append, length-drop}
+use lib.Seq.{length-take-le, take-at, set-split, append-snoc}
+use Rattle.laws.proofs.Booleans.{neither}
+use Rattle.laws.proofs.Tests.{eqb-comm}
 use Rattle.queue.specs.declared.Job.{Job}
 use Rattle.queue.specs.declared.Queue.{Queue}
 use Rattle.queue.specs.Waiting.{capacity, zeroJob, waiting, any, pairTwice, late, invalid, with, without, filled, closedUp, samePair}
-use Rattle.queue.proofs.Tests.{or-false}
 use Rattle.queue.proofs.Valid.{Valid, valid}
 
 -- a queue as `empty` makes it and as every call leaves it: valid, and with a place for each of 64 jobs
@@ -31,27 +29,27 @@ pub sound-length : (q : Queue) → Sound q → length (waiting q) ≡ q .count
 sound-length q s = length-take-le (q .count) (q .jobs) (sound-fits q s)
 
 -- ---- pairs
-eqb-turned : (a b : ℕ) → eqb a b ≡ eqb b a
-eqb-turned a b = go (ℕ-discrete a b)
-  where
-    go : Dec (a ≡ b) → eqb a b ≡ eqb b a
-    go (yes e) = eq-eqb a b e ∙ sym (eq-eqb b a (sym e))
-    go (no n) = ne-eqb a b n ∙ sym (ne-eqb b a (λ e. n (sym e)))
-
 pub same-pair : (j k : Job) → samePair j k ≡ samePair k j
-same-pair j k = rw (eqb-turned (k .connection) (j .connection), eqb-turned (k .request) (j .request))
+same-pair j k = rw (eqb-comm (k .connection) (j .connection), eqb-comm (k .request) (j .request))
 
 -- ---- a job is stored
 none-more : (p : Job → Bool) (w : List Job) (j : Job) → any p w ≡ false → p j ≡ false → any p (with w j) ≡ false
 none-more p [] j e f = rw f
-none-more p (k ∷ ks) j e f = let s = or-false (p k) (any p ks) e in rw (s .0) (none-more p ks j (s .1) f)
+none-more p (k ∷ ks) j e f = let s = neither (p k) (any p ks) e in rw (s .0) (none-more p ks j (s .1) f)
 
 pub apart-with : (w : List Job) (j : Job) → pairTwice w ≡ false → any (samePair j) w ≡ false → pairTwice (with w j) ≡ false
 apart-with [] j e f = refl
 apart-with (k ∷ ks) j e f =
-    let s = or-false (any (samePair k) ks) (pairTwice ks) e in
-    let t = or-false (samePair j k) (any (samePair j) ks) f in
+    let s = neither (any (samePair k) ks) (pairTwice ks) e in
+    let t = neither (samePair j k) (any (samePair j) ks) f in
     rw (none-more (samePair k) ks j (s .0) (same-pair k j ∙ t .0)) (apart-with ks j (s .1) (t .1))
+
+-- a store at the count fills the first free place
+pub filled-queue :
+    (q : Queue) (j : Job) {n : ℕ} → q .count < length (q .jobs) → n ≡ suc (q .count)
+    → _≡_ {A = Queue} (record { jobs = set (q .jobs) (q .count) j; count = n }) (filled q j)
+filled-queue q j h e =
+    rw (set-split (q .jobs) (q .count) j h ∙ sym (append-snoc (waiting q) j (drop (suc (q .count)) (q .jobs))), e)
 
 module _ (q : Queue) (j : Job) (s : Sound q) (room : q .count < capacity) where
   length-with : length (with (waiting q) j) ≡ suc (q .count)
@@ -78,15 +76,15 @@ module _ (q : Queue) (j : Job) (s : Sound q) (room : q .count < capacity) where
 none-less : (p : Job → Bool) (w : List Job) (at : ℕ) → any p w ≡ false → any p (without w at) ≡ false
 none-less p [] zero e = refl
 none-less p [] (suc at) e = refl
-none-less p (k ∷ ks) zero e = or-false (p k) (any p ks) e .1
-none-less p (k ∷ ks) (suc at) e = let s = or-false (p k) (any p ks) e in rw (s .0) (none-less p ks at (s .1))
+none-less p (k ∷ ks) zero e = neither (p k) (any p ks) e .1
+none-less p (k ∷ ks) (suc at) e = let s = neither (p k) (any p ks) e in rw (s .0) (none-less p ks at (s .1))
 
 apart-without : (w : List Job) (at : ℕ) → pairTwice w ≡ false → pairTwice (without w at) ≡ false
 apart-without [] zero e = refl
 apart-without [] (suc at) e = refl
-apart-without (k ∷ ks) zero e = or-false (any (samePair k) ks) (pairTwice ks) e .1
+apart-without (k ∷ ks) zero e = neither (any (samePair k) ks) (pairTwice ks) e .1
 apart-without (k ∷ ks) (suc at) e =
-    let s = or-false (any (samePair k) ks) (pairTwice ks) e in
+    let s = neither (any (samePair k) ks) (pairTwice ks) e in
     rw (none-less (samePair k) ks at (s .0)) (apart-without ks at (s .1))
 
 module _ (q : Queue) (at : ℕ) (s : Sound q) (h : at < q .count) where

@@ -11,9 +11,9 @@ use borrow.Author.Tests.{lt-ltb, le-ltb, ltb-false}
 use lib.Dec.{ltb, leb·suc-suc}
 use lib.ListN.{length, take, drop, length-drop, drop-of-length-le}
 use lib.Seq.{drop-cons, length-take-le, getD-take}
+use Rattle.laws.proofs.Booleans.{or-right}
 use Rattle.queue.specs.declared.Job.{Job}
 use Rattle.queue.specs.Waiting.{zeroJob, any, place, jobAt}
-use Rattle.queue.proofs.Tests.{or-right}
 
 -- the first n jobs from a place on: the job there and those after it, or nothing
 pub drop-front :

@@ -11,11 +11,11 @@ use borrow.Author.Tests.{lt-ltb, le-ltb, ltb-false, eqb-true}
 use lib.Dec.{ltb, eqb}
 use lib.ListN.{length, take, drop}
 use lib.Seq.{length-take-le, getD-take}
+use Rattle.laws.proofs.Booleans.{both, neither, or-right}
 use Rattle.queue.specs.declared.Job.{Job}
 use Rattle.queue.specs.declared.Queue.{Queue}
 use Rattle.queue.specs.Waiting.{capacity, latestArrival, zeroJob, waiting, any, place, hasPair, pairTwice, late, invalid, jobAt}
 use Rattle.queue.specs.Waiting.{samePair}
-use Rattle.queue.proofs.Tests.{or-right, or-false, both}
 use Rattle.queue.proofs.Search.{any-some, none-at, drop-front, search-found, search-fails}
 
 -- a queue that is not invalid
@@ -27,8 +27,8 @@ pub record Valid (q : Queue) : Type 0 where
 pub valid : (q : Queue) → invalid q ≡ false → Valid q
 unfolding invalid
 valid q e =
-    let a = or-false (ltb capacity (q .count)) (pairTwice (waiting q) || any late (waiting q)) e in
-    let b = or-false (pairTwice (waiting q)) (any late (waiting q)) (a .1) in
+    let a = neither (ltb capacity (q .count)) (pairTwice (waiting q) || any late (waiting q)) e in
+    let b = neither (pairTwice (waiting q)) (any late (waiting q)) (a .1) in
     record { few = ltb-false capacity (q .count) (a .0); apart = b .0; early = b .1 }
 
 pub not-invalid : (q : Queue) → Valid q → invalid q ≡ false
@@ -59,7 +59,7 @@ arrival-at q k e fits h =
     ltb-false latestArrival (jobAt (q .jobs) k .arrival) (rw (getD-take (q .count) (q .jobs) k zeroJob h) at l)
 
 -- where no pair is there twice, a pair is at one place only
-pair-is : (c r : ℕ) (j : Job) → hasPair c r j ≡ true → (j .connection ≡ c) × (j .request ≡ r)
+pub pair-is : (c r : ℕ) (j : Job) → hasPair c r j ≡ true → (j .connection ≡ c) × (j .request ≡ r)
 pair-is c r j e =
     let s = both (eqb (j .connection) c) (eqb (j .request) r) e in
     (eqb-true (j .connection) c (s .0), eqb-true (j .request) r (s .1))
@@ -113,8 +113,8 @@ module _
   fits : q .count ≤ length (q .jobs)
   fits = omega (arith, valid q ok .few)
 
-  pub pair-waits : at < q .count → any (hasPair c r) (waiting q) ≡ true
-  pair-waits h = search-found (hasPair c r) (q .jobs) (q .count) 0 fits at found h
+  pub found-waits : at < q .count → any (hasPair c r) (waiting q) ≡ true
+  found-waits h = search-found (hasPair c r) (q .jobs) (q .count) 0 fits at found h
 
-  pub pair-absent : q .count ≤ at → any (hasPair c r) (waiting q) ≡ false
-  pair-absent h = search-fails (hasPair c r) (q .jobs) (q .count) 0 fits at (omega arith) found h
+  pub found-absent : q .count ≤ at → any (hasPair c r) (waiting q) ≡ false
+  found-absent h = search-fails (hasPair c r) (q .jobs) (q .count) 0 fits at (omega arith) found h

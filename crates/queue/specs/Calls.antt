@@ -4,13 +4,14 @@ use Prim.Native.Nat.{ℕ}
 use mathlib.Core.Bool.{cond}
 use lib.Dec.{eqb}
 use lib.ListN.{replicate}
-use Rattle.message.specs.declared.Request.{Request}
+use Rattle.refusals.specs.Numbers.{queueFull, lateArrival, queueEmpty, badQueue, pairWaits, pairAbsent}
+use Rattle.records.specs.declared.Request.{Request}
 use Rattle.queue.specs.declared.Job.{Job}
 use Rattle.queue.specs.declared.Queue.{Queue}
 use Rattle.queue.specs.declared.Added.{Added}
 use Rattle.queue.specs.declared.Removed.{Removed}
-use Rattle.queue.specs.Waiting.{capacity, zeroJob, waiting, jobAt, any, place, hasPair, samePair, late, invalid, earliest, filled}
-use Rattle.queue.specs.Waiting.{closedUp}
+use Rattle.queue.specs.Waiting.{capacity, zeroJob, waiting, jobAt, any, place, hasPair}
+use Rattle.queue.specs.Waiting.{samePair, late, invalid, earliest, filled, closedUp}
 
 -- a job of "connection number, request id and timeout (32-bit), arrival (64-bit ms)"; the number that fills its gap is 0
 abbrev pub newJob : (connection request timeout arrival : ℕ) → Job
@@ -20,25 +21,6 @@ newJob connection request timeout arrival =
 -- "The id in bytes 11-14 is the one to answer with; the message's own request_id is only handed over."
 abbrev pub jobOf : Request → (connection arrival : ℕ) → Job
 jobOf request connection arrival = newJob connection (request .id) (request .timeout) arrival
-
--- the error codes, document 01's refusal numbers 21 to 26, as in its table
-abbrev pub errorFull : ℕ
-errorFull = 21
-
-abbrev pub errorArrival : ℕ
-errorArrival = 22
-
-abbrev pub errorEmpty : ℕ
-errorEmpty = 23
-
-abbrev pub errorInvalid : ℕ
-errorInvalid = 24
-
-abbrev pub errorDuplicate : ℕ
-errorDuplicate = 25
-
-abbrev pub errorAbsent : ℕ
-errorAbsent = 26
 
 -- a queue in which nothing waits, all zero
 abbrev pub emptyQueue : Queue
@@ -52,10 +34,10 @@ addError q n = record { queue = q; error = n }
 -- back is no fault": no ground compares arrivals.
 unfoldable pub added : Queue → Job → Added
 added q j =
-    cond (invalid q) (addError q errorInvalid)
-    (cond (late j) (addError q errorArrival)
-    (cond (any (samePair j) (waiting q)) (addError q errorDuplicate)
-    (cond (eqb (q .count) capacity) (addError q errorFull)
+    cond (invalid q) (addError q badQueue)
+    (cond (late j) (addError q lateArrival)
+    (cond (any (samePair j) (waiting q)) (addError q pairWaits)
+    (cond (eqb (q .count) capacity) (addError q queueFull)
     (record { queue = filled q j; error = 0 }))))
 
 -- "A refused record or job is all zero", and the list is untouched
@@ -69,13 +51,13 @@ removedAt q at = record { queue = closedUp q at; job = jobAt (waiting q) at; err
 -- "Take removes the earliest due"; 24, then 23 where "nothing waits"
 unfoldable pub taken : Queue → Removed
 taken q =
-    cond (invalid q) (removeError q errorInvalid)
-    (cond (eqb (q .count) 0) (removeError q errorEmpty)
+    cond (invalid q) (removeError q badQueue)
+    (cond (eqb (q .count) 0) (removeError q queueEmpty)
     (removedAt q (earliest (waiting q))))
 
 -- "Cancel removes the named pair"; 24, then 26 where "that pair doesn't wait"
 unfoldable pub cancelled : Queue → ℕ → ℕ → Removed
 cancelled q c r =
-    cond (invalid q) (removeError q errorInvalid)
+    cond (invalid q) (removeError q badQueue)
     (cond (any (hasPair c r) (waiting q)) (removedAt q (place (hasPair c r) (waiting q)))
-    (removeError q errorAbsent))
+    (removeError q pairAbsent))

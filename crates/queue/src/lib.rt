@@ -1,11 +1,17 @@
-// The queue of waiting jobs, by value (document 01, "Waiting jobs"): a queue goes in and comes back beside the answer.
+// The queue of waiting jobs, by value (document 01, "Waiting jobs"): a queue goes in and comes back with the answer.
 // An answer carries an error code, document 01's refusal number, and 0 where there is none.
 mod due;
 mod pairs;
 mod removal;
 mod validity;
 
-use message::Request;
+use records::Request;
+use refusals::BAD_QUEUE;
+use refusals::LATE_ARRIVAL;
+use refusals::PAIR_ABSENT;
+use refusals::PAIR_WAITS;
+use refusals::QUEUE_EMPTY;
+use refusals::QUEUE_FULL;
 ghost use mathlib.Core.Path.{_≡_};
 ghost use Rattle.queue.specs.Calls.{jobOf, emptyQueue, added, taken, cancelled};
 
@@ -14,19 +20,6 @@ pub const CAPACITY: usize = 64;
 
 // The latest arrival that a waiting job may have: 2^62.
 pub const LATEST_ARRIVAL: u64 = 4611686018427387904;
-
-// 64 jobs wait.
-pub const ERROR_FULL: u32 = 21;
-// The arrival is above 2^62.
-pub const ERROR_ARRIVAL: u32 = 22;
-// Nothing waits.
-pub const ERROR_EMPTY: u32 = 23;
-// The queue itself is invalid.
-pub const ERROR_INVALID: u32 = 24;
-// The job's pair waits already.
-pub const ERROR_DUPLICATE: u32 = 25;
-// The named pair doesn't wait.
-pub const ERROR_ABSENT: u32 = 26;
 
 // A job, named by its pair of connection number and request id. A timeout of 0 is no deadline. Times are in milliseconds.
 // `zero` fills the four bytes before `arrival`: without it they would be padding, which no contract could speak of. No
@@ -91,26 +84,26 @@ pub fn add(q: Queue, j: Job) -> Added
     if validity::invalid(q) {
         return Added {
             queue: q,
-            error: ERROR_INVALID,
+            error: BAD_QUEUE,
         };
     }
     if LATEST_ARRIVAL < j.arrival {
         return Added {
             queue: q,
-            error: ERROR_ARRIVAL,
+            error: LATE_ARRIVAL,
         };
     }
     let n = q.count;
     if pairs::find(q, 0, j.connection, j.request) < n {
         return Added {
             queue: q,
-            error: ERROR_DUPLICATE,
+            error: PAIR_WAITS,
         };
     }
     if n == CAPACITY {
         return Added {
             queue: q,
-            error: ERROR_FULL,
+            error: QUEUE_FULL,
         };
     }
     let mut jobs = q.jobs;
@@ -126,10 +119,10 @@ pub fn take(q: Queue) -> Removed
     ensures { λ r. ⌜ r ≡ taken q ⌝ }
 {
     if validity::invalid(q) {
-        return removal::fail(q, ERROR_INVALID);
+        return removal::fail(q, BAD_QUEUE);
     }
     if q.count == 0 {
-        return removal::fail(q, ERROR_EMPTY);
+        return removal::fail(q, QUEUE_EMPTY);
     }
     removal::remove(q, due::earliest(q))
 }
@@ -139,12 +132,12 @@ pub fn cancel(q: Queue, connection: u32, request: u32) -> Removed
     ensures { λ r. ⌜ r ≡ cancelled q connection request ⌝ }
 {
     if validity::invalid(q) {
-        return removal::fail(q, ERROR_INVALID);
+        return removal::fail(q, BAD_QUEUE);
     }
     let n = q.count;
     let at = pairs::find(q, 0, connection, request);
     if at < n {
         return removal::remove(q, at);
     }
-    removal::fail(q, ERROR_ABSENT)
+    removal::fail(q, PAIR_ABSENT)
 }

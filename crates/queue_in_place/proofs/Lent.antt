@@ -8,7 +8,8 @@
 --     of-local         an operand that is a local, wherever the code says which
 --     hands-back       a borrow is what the reference owns
 --     leaves           a local is freed, whatever it holds
---     concludes        a walk of a function's MIR is the function's contract
+--     lends, a-number  what is left of a parameter at exit, with the law of each: goes-lent, goes-number
+--     concludes        a walk of a function's MIR, with the contract of the one function that it calls, is the function's contract
 -- Assumes `Given`.
 use mathlib.Core.Path.{_≡_, refl, ap, subst}
 use Prim.Native.Nat.{ℕ, zero, _+_, _*_, _-_}
@@ -26,11 +27,14 @@ use prog.Wp.{Heap, Env, Spot, spotOf, Calls, Loops, WpFn, Closed}
 use ghost.Atoms.{Atoms}
 use contract.Monad.{fact}
 use contract.Running.{GhostRules, Running, givenOf, tables, tablesOf}
-use sound.WpLaws.{FmC, WpFn-mono}
+use sound.WpLaws.{FmC, fmOf, WpFn-mono}
 use types.Kit.{Given, Item, ‵, raw, mean, nth, _⊛_, some, later, Goal, Soaks, Post, runs, lands, frees, Seq, Step, step, _$_, move, drop}
 use types.Kit.{split, pick, use0, use1, feqI, fjoin3, await, regoal}
 use types.Run.{Rv, Finds, Opd, Opds, Writes, load, from, stop, look, assigns, store-raw, forget, free1}
 use types.SemTy.{Body}
+use denote.RattleType.{RattleType}
+use denote.Exit.{yes, Last, left}
+use denote.Signature.{AllWithin, plain, mutRefTo}
 use denote.Laws.{Is, shows}
 use denote.Memory.{cellAt, mem}
 use denote.Steps.{only, opens, closes, owned, facts, heard}
@@ -43,8 +47,8 @@ use denote.Triple.Call.{calls-at}
 use denote.Triple.Clauses.{Clauses, Ended, closing}
 use denote.Triple.Spec.{tripleOf}
 use denote.Triple.Statement.{Contract, Triple}
-use denote.Triple.Table.{entered}
-use denote.Triple.Walked.{AllGo, Stays, Walks, walk-meets}
+use denote.Triple.Table.{entered, cited}
+use denote.Triple.Walked.{Stay, Stays, stay-ref, stay-dropped, Goes, goes-ref, goes-dropped, AllGo, Walks, walk-meets}
 
 pub record PlainStruct : Type 2 where
   pub type : Declared
@@ -81,6 +85,26 @@ Open S κ q γ b o h Γ = Opened S κ q γ b o h h Γ
 -- the answer of a function by value: some r is owned, and `ensures r` is said of it
 abbrev pub Answer : {M : Type 1} {𝓤 : URA M} (S : PlainStruct) → (Value S → SProp 𝓤) → Val → Item 𝓤
 Answer S ensures v = later (some (λ (r : Value S). (‵ ftrue ⊛ ‵ (row (S .type) .own r (v ∷ []))) ⊛ raw (ensures r)))
+
+-- what is left of a parameter at exit: a struct lent for the lifetime i is handed back, of a number nothing is left
+module _ (n : ℕ) where
+  abbrev pub lends :
+      (i : ℕ) (ok : AllWithin n (i ∷ [])) (S : PlainStruct) → Stay {n = n} (mutRefTo (i ∷ []) ok (plain (λ _. row (S .type)))) yes
+  lends i ok S = stay-ref (i ∷ []) ok (plain (λ _. row (S .type)))
+
+  abbrev pub a-number : (T : RattleType) → Stay {n = n} (plain (λ _. T)) yes
+  a-number T = stay-dropped (plain (λ _. T)) yes
+
+module _ {M : Type 1} {𝓤 : URA M} {H : Heap 𝓤} {A : Atoms 𝓤} (W : Given 𝓤 H A) (n : ℕ) where
+  pub goes-lent :
+      (i : ℕ) (ok : AllWithin n (i ∷ [])) (S : PlainStruct)
+      → Goes 𝓤 H A W n (mutRefTo (i ∷ []) ok (plain (λ _. row (S .type)))) yes (lends n i ok S)
+  goes-lent i ok S = goes-ref 𝓤 H A W n i ok (plain (λ _. row (S .type)))
+
+  pub goes-number :
+      (T : RattleType) → ((x : T .Denot) (f : Last (T .exit yes) x) → left (T .exit yes) x f ≡ ftrue)
+      → Goes 𝓤 H A W n (plain (λ _. T)) yes (a-number n T)
+  goes-number T silent = goes-dropped 𝓤 H A W n (plain (λ _. T)) yes (λ κs x f. silent x f)
 
 module _ {M : Type 1} {𝓤 : URA M} {H : Heap 𝓤} {A : Atoms 𝓤} (W : Given 𝓤 H A) where
   pub typed : (S : PlainStruct) (h : Value S) → Fits S h → T (hasTy (layout (shape (S .type))) (val S h)) × WT (val S h)
@@ -165,13 +189,21 @@ module _
 module _
     {M : Type 1} (𝓤 : URA M) (H : Heap 𝓤) (𝓜 : Model 𝓤 H) (𝓖 : GhostRules 𝓤 H) (𝓡 : Running 𝓤 H 𝓜) (T : Ended) (c : Clauses 𝓤 T)
     (hs : Stays (T .signature .params) (T .kept)) where
+  abbrev W : Given 𝓤 H (𝓖 .A)
+  W = givenOf 𝓤 H 𝓜 𝓖
+
+  -- callee is the name by which the code calls a routine, which meets its contract d
   pub concludes :
-      AllGo 𝓤 H (𝓖 .A) (givenOf 𝓤 H 𝓜 𝓖) (T .signature .lifetimes) (T .signature .params) (T .kept) hs
+      AllGo 𝓤 H (𝓖 .A) W (T .signature .lifetimes) (T .signature .params) (T .kept) hs
       → (env : routines.Env) (key : Name) (f : Fn) → Closed 𝓤 H (tables 𝓤 H 𝓜 𝓡 env .C) (tables 𝓤 H 𝓜 𝓡 env .Λ) key f
-      → Walks 𝓤 H (𝓖 .A) T hs (WpFn 𝓤 H (tables 𝓤 H 𝓜 𝓡 env .C) (tables 𝓤 H 𝓜 𝓡 env .Λ) f) c
+      → (d : Contract 𝓤) (callee : Name) (routine : routines.Routine) → env callee ≡ routine → Triple 𝓤 (𝓡 .run routine) d
+      → ((C : Calls 𝓤 H) (Λ : Loops 𝓤 H) → FmC 𝓤 H (W .laws) C → Triple 𝓤 (C callee) d → Walks 𝓤 H (𝓖 .A) T hs (WpFn 𝓤 H C Λ f) c)
       → Triple 𝓤 (tables 𝓤 H 𝓜 𝓡 env .C key) (tripleOf 𝓤 H (𝓖 .A) (T .signature) (closing 𝓤 H (𝓖 .A) T c))
   unfolding tablesOf
-  concludes goes env key f closed walks =
-      entered 𝓤 H (tripleOf 𝓤 H (𝓖 .A) (T .signature) (closing 𝓤 H (𝓖 .A) T c)) (tables 𝓤 H 𝓜 𝓡 env .C) (tables 𝓤 H 𝓜 𝓡 env .Λ) key f closed
-      (walk-meets 𝓤 H (𝓖 .A) T hs (givenOf 𝓤 H 𝓜 𝓖) goes c (WpFn 𝓤 H (tables 𝓤 H 𝓜 𝓡 env .C) (tables 𝓤 H 𝓜 𝓡 env .Λ) f)
-      (WpFn-mono 𝓤 H (givenOf 𝓤 H 𝓜 𝓖 .laws) (tablesOf 𝓤 H 𝓜 (tables 𝓤 H 𝓜 𝓡 env)) f) walks)
+  concludes goes env key f closed d callee routine calls met walks =
+      let C = tables 𝓤 H 𝓜 𝓡 env .C in
+      let Λ = tables 𝓤 H 𝓜 𝓡 env .Λ in
+      let machine = tablesOf 𝓤 H 𝓜 (tables 𝓤 H 𝓜 𝓡 env) in
+      entered 𝓤 H (tripleOf 𝓤 H (𝓖 .A) (T .signature) (closing 𝓤 H (𝓖 .A) T c)) C Λ key f closed
+      (walk-meets 𝓤 H (𝓖 .A) T hs W goes c (WpFn 𝓤 H C Λ f) (WpFn-mono 𝓤 H (W .laws) machine f)
+      (walks C Λ (fmOf 𝓤 H (W .laws) machine) (cited 𝓤 H d 𝓜 𝓡 env callee routine calls met)))

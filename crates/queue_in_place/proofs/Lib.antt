@@ -1,4 +1,5 @@
 -- What the walks share, from the general down.
+mod Words
 pub mod Lent
 pub mod Structs
 -- Demand 1, of every public entry

@@ -1,5 +1,3 @@
--- Demand 3 whole
-pub mod FaithfulReading
 -- Demand 1, of every public entry
 pub mod AsksNothing
 mod Starts

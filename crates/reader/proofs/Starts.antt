@@ -1,4 +1,4 @@
--- A part's span starts within the frame: what stands there is the part, and an empty one starts at 0.
+-- A part's span starts within the frame: what is there is the part, and an empty one starts at 0.
 use Prim.Native.Nat.{ℕ, _+_, _-_, min}
 use mathlib.Core.Path.{_≡_, refl, ap, subst, sym, _∙_}
 use mathlib.Core.Bool.{Bool, true, false, cond}
@@ -18,6 +18,7 @@ starts-within f l start e = by (eqb (length l) 0) refl
     by : (b : Bool) → eqb (length l) 0 ≡ b → min (cond b 0 start) (length f) ≡ cond b 0 start
     by true h = omega arith
     by false h =
-        let there : part f start (start + length l) ≡ l = subst (λ (b : Bool). bytesAt f (record { start = cond b 0 start; len = length l }) ≡ l) h e in
+        let there : part f start (start + length l)
+        ≡ l = subst (λ (b : Bool). bytesAt f (record { start = cond b 0 start; len = length l }) ≡ l) h e in
         let size : length l ≡ min (start + length l) (length f) - start = sym (ap length there) ∙ part-length f start (start + length l) in
         omega (arith, eqb-false (length l) 0 h)

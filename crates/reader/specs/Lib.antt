@@ -1,4 +1,2 @@
--- Demand 3 whole
-pub mod Stream
--- where the parts stand
+-- where the parts are
 pub mod Places

@@ -2,11 +2,11 @@
 mod parts;
 
 use message::Answer;
-use message::Kind;
 use message::read_spans;
 use parts::attachment_of;
 use parts::body_of;
 use parts::header_of;
+use schema::Kind;
 ghost use mathlib.Core.Path.{_≡_};
 ghost use lib.ListN.{length};
 ghost use Rattle.message.specs.Frames.{readFrame};

@@ -5,12 +5,13 @@
 -- Assumes nothing.
 use Prim.Native.Nat.{ℕ, zero, suc, _<_}
 use mathlib.Core.Path.{_≡_, refl, sym, ap, subst, _∙_}
-use mathlib.Core.Logic.{_⊎_, inl, inr}
+use mathlib.Core.Logic.{_⊎_, inl, inr, ⊎-elim}
 use mathlib.Core.Bool.{Bool, true, false, cond, not, _&&_}
 use mathlib.Core.List.{List, [], _∷_, _++_}
 use native.Mathlib.Omega.{arith}
 use borrow.Author.Tests.{eq-eqb, ne-eqb}
 use lib.Dec.{eqb}
+use Rattle.laws.proofs.Booleans.{clash}
 use Rattle.refusals.specs.Grounds.{Ground, ground, First, None, under, Verdict, refuses, works, byNumber, numberOf, Entry, retold}
 use Rattle.refusals.specs.Grounds.{Exactly}
 use Rattle.refusals.proofs.Tests.{Told, Finds, Tests}
@@ -84,8 +85,11 @@ first-under C (g ∷ gs) c n (inr f) = inr (λ h. f .0 (h .1), first-under C gs 
 
 -- ---- a chain of tests
 -- the answer is the work where no ground holds, else the refusal of the first that does
+abbrev pub Went : {A : Type 0} → List Ground → (ℕ → A) → (work a : A) → Type 0
+Went gs refusal work a = (None gs × (a ≡ work)) ⊎ ((n : ℕ) × First gs n × (a ≡ refusal n))
+
 pub record Outcome {A : Type 0} (gs : List Ground) (refusal : ℕ → A) (work a : A) : Type 0 where
-  pub is : (None gs × (a ≡ work)) ⊎ ((n : ℕ) × First gs n × (a ≡ refusal n))
+  pub is : Went gs refusal work a
 
 unless-both : {A : Type 0} (a b : Bool) (later bad : A) → cond a (cond b later bad) bad ≡ cond (a && b) later bad
 unless-both true b later bad = refl
@@ -97,12 +101,7 @@ module _ {A : Type 0} {refusal : ℕ → A} {work : A} where
 
   pub passed : {P : Type 0} {n : ℕ} {gs : List Ground} {a : A} → (P → ⊥) → Outcome gs refusal work a
       → Outcome (ground n P ∷ gs) refusal work a
-  passed {P} {n} {gs} {a} p o = record { is = by (o .is) }
-    where
-      by : (None gs × (a ≡ work)) ⊎ ((n : ℕ) × First gs n × (a ≡ refusal n))
-          → (None (ground n P ∷ gs) × (a ≡ work)) ⊎ ((m : ℕ) × First (ground n P ∷ gs) m × (a ≡ refusal m))
-      by (inl o) = inl ((p, o .0), o .1)
-      by (inr o) = inr (o .0, inr (p, o .1), o .2)
+  passed p o = record { is = ⊎-elim (λ h. inl ((p, h .0), h .1)) (λ h. inr (h .0, inr (p, h .1), h .2)) (o .is) }
 
   pub stopped : {P : Type 0} {n : ℕ} {gs : List Ground} → P → Outcome (ground n P ∷ gs) refusal work (refusal n)
   stopped {P} {n} {gs} p = record { is = inr (n, inl (p, refl), refl) }
@@ -148,8 +147,7 @@ module _ {A : Type 0} {refusal : ℕ → A} {work : A} where
       → Outcome (gs ++ hs) refusal work (cond (eqb error 0) later (refusal error))
   unless-error gs {hs} error {later} p o l = by (o .is) (l .is)
     where
-      by : (None gs × (error ≡ 0)) ⊎ ((n : ℕ) × First gs n × (error ≡ n))
-          → (None hs × (later ≡ work)) ⊎ ((n : ℕ) × First hs n × (later ≡ refusal n))
+      by : Went gs (λ n. n) 0 error → Went hs refusal work later
           → Outcome (gs ++ hs) refusal work (cond (eqb error 0) later (refusal error))
       by (inl h) (inl k) = rw (eq-eqb error 0 (h .1)) (record { is = inl (none-both gs hs (h .0) (k .0), k .1) })
       by (inl h) (inr k) = rw (eq-eqb error 0 (h .1)) (record { is = inr (k .0, first-later gs hs (k .0) (h .0) (k .1), k .2) })
@@ -161,47 +159,35 @@ module _ {A : Type 0} {refusal : ℕ → A} {work : A} where
   pub followed : (gs : List Ground) {hs : List Ground} {v : Verdict} {a : A} → Outcome gs refuses works v
       → (v ≡ works → Outcome hs refusal work a)
       → ((n : ℕ) → v ≡ refuses n → a ≡ refusal n) → Outcome (gs ++ hs) refusal work a
-  followed gs {hs} {v} {a} o next stop = by (o .is)
-    where
-      by : (None gs × (v ≡ works)) ⊎ ((n : ℕ) × First gs n × (v ≡ refuses n)) → Outcome (gs ++ hs) refusal work a
-      by (inr h) = record { is = inr (h .0, first-sooner gs hs (h .0) (h .1), stop (h .0) (h .2)) }
-      by (inl h) = record { is = on (next (h .1) .is) }
-        where
-          on : (None hs × (a ≡ work)) ⊎ ((n : ℕ) × First hs n × (a ≡ refusal n))
-              → (None (gs ++ hs) × (a ≡ work)) ⊎ ((n : ℕ) × First (gs ++ hs) n × (a ≡ refusal n))
-          on (inl k) = inl (none-both gs hs (h .0) (k .0), k .1)
-          on (inr k) = inr (k .0, first-later gs hs (k .0) (h .0) (k .1), k .2)
+  followed gs {hs} o next stop = record {
+    is = ⊎-elim
+        (λ h. ⊎-elim (λ k. inl (none-both gs hs (h .0) (k .0), k .1)) (λ k. inr (k .0, first-later gs hs (k .0) (h .0) (k .1), k .2))
+        (next (h .1) .is))
+        (λ h. inr (h .0, first-sooner gs hs (h .0) (h .1), stop (h .0) (h .2))) (o .is);
+  }
 
   -- an answer that goes by an error code, 0 for none
   pub of-error : (gs : List Ground) → Numbered gs → {error : ℕ} {a : A} → Outcome gs (λ n. n) 0 error → (error ≡ 0 → a ≡ work)
       → (0 < error → a ≡ refusal error)
       → Outcome gs refusal work a
-  of-error gs p {error} {a} o f g = record { is = by (o .is) }
-    where
-      by : (None gs × (error ≡ 0)) ⊎ ((n : ℕ) × First gs n × (error ≡ n))
-          → (None gs × (a ≡ work)) ⊎ ((n : ℕ) × First gs n × (a ≡ refusal n))
-      by (inl h) = inl (h .0, f (h .1))
-      by (inr h) = inr (h .0, h .1, g (omega (arith, first-number gs p (h .0) (h .1), h .2)) ∙ ap refusal (h .2))
+  of-error gs p o f g = record {
+    is = ⊎-elim (λ h. inl (h .0, f (h .1)))
+        (λ h. inr (h .0, h .1, g (omega (arith, first-number gs p (h .0) (h .1), h .2)) ∙ ap refusal (h .2))) (o .is);
+  }
 
   -- grounds that hold only where C does
   pub under-met : {C : Type 0} (gs : List Ground) {a : A} → C → Outcome gs refusal work a → Outcome (under C gs) refusal work a
-  under-met {C} gs {a} c o = record { is = by (o .is) }
-    where
-      by : (None gs × (a ≡ work)) ⊎ ((n : ℕ) × First gs n × (a ≡ refusal n))
-          → (None (under C gs) × (a ≡ work)) ⊎ ((n : ℕ) × First (under C gs) n × (a ≡ refusal n))
-      by (inl h) = inl (none-under C gs (h .0), h .1)
-      by (inr h) = inr (h .0, first-under C gs c (h .0) (h .1), h .2)
+  under-met {C} gs c o = record {
+    is = ⊎-elim (λ h. inl (none-under C gs (h .0), h .1)) (λ h. inr (h .0, first-under C gs c (h .0) (h .1), h .2)) (o .is);
+  }
 
   pub under-unmet : {C : Type 0} (gs : List Ground) → (C → ⊥) → Outcome (under C gs) refusal work work
   under-unmet {C} gs c = record { is = inl (none-unmet C gs c, refl) }
 
 -- grounds that decide a verdict: it is the refusal of the first that holds
 pub decided : (gs : List Ground) {v : Verdict} → Outcome gs refuses works v → (n : ℕ) → First gs n → v ≡ refuses n
-decided gs {v} o n f = by (o .is)
-  where
-    by : (None gs × (v ≡ works)) ⊎ ((m : ℕ) × First gs m × (v ≡ refuses m)) → v ≡ refuses n
-    by (inl h) = absurd (first-not-none gs n f (h .0))
-    by (inr h) = h .2 ∙ ap refuses (first-once gs (h .0) n (h .1) f)
+decided gs o n f =
+    ⊎-elim (λ h. absurd (first-not-none gs n f (h .0))) (λ h. h .2 ∙ ap refuses (first-once gs (h .0) n (h .1) f)) (o .is)
 
 -- one test, and what its two answers say
 pub one-test : {R : Type 0} (says : R → Verdict) {ok : Bool} {P : Type 0} {n : ℕ} {x y : R} → Tests ok P → says x ≡ works
@@ -216,12 +202,7 @@ one-test says {ok} {P} {n} {x} {y} t good bad = by ok (t .told)
 -- a part of the answer
 pub part-of : {A B : Type 0} {gs : List Ground} {refusal : ℕ → A} {work a : A} (f : A → B) → Outcome gs refusal work a
     → Outcome gs (λ n. f (refusal n)) (f work) (f a)
-part-of {gs} {refusal} {work} {a} f o = record { is = by (o .is) }
-  where
-    by : (None gs × (a ≡ work)) ⊎ ((n : ℕ) × First gs n × (a ≡ refusal n))
-        → (None gs × (f a ≡ f work)) ⊎ ((n : ℕ) × First gs n × (f a ≡ f (refusal n)))
-    by (inl h) = inl (h .0, ap f (h .1))
-    by (inr h) = inr (h .0, h .1, ap f (h .2))
+part-of f o = record { is = ⊎-elim (λ h. inl (h .0, ap f (h .1))) (λ h. inr (h .0, h .1, ap f (h .2))) (o .is) }
 
 -- ---- an answer that goes by the grounds is given exactly
 pub exactly : {A : Type 0} (e : Entry A) (a : A)
@@ -230,15 +211,14 @@ pub exactly : {A : Type 0} (e : Entry A) (a : A)
     → Outcome (e .grounds) (e .refusal) (e .work) a → Exactly e a
 exactly {A} e a work-says refusal-says o = by (o .is)
   where
-    by : (None (e .grounds) × (a ≡ e .work)) ⊎ ((n : ℕ) × First (e .grounds) n × (a ≡ e .refusal n)) → Exactly e a
+    by : Went (e .grounds) (e .refusal) (e .work) a → Exactly e a
     by (inl h) =
         let said : e .says a ≡ works = ap (e .says) (h .1) ∙ work-says (h .0) in
         record {
           given =
               λ n. (
-                λ (s : e .says a ≡ refuses n). let z : _≡_ {A = ℕ} 0 1 = cc in absurd (omega arith),
-                λ f. absurd
-                    (first-not-none (e .grounds) n f (h .0)),
+                λ (s : e .says a ≡ refuses n). clash cc,
+                λ f. absurd (first-not-none (e .grounds) n f (h .0)),
               );
           worked = (λ s. h .0, λ none. said);
           refused = λ n f. absurd (first-not-none (e .grounds) n f (h .0));
@@ -253,7 +233,7 @@ exactly {A} e a work-says refusal-says o = by (o .is)
             λ f. said ∙ ap refuses (first-once (e .grounds) (h .0) n (h .1) f),
           );
           worked = (
-            λ (s : e .says a ≡ works). let z : _≡_ {A = ℕ} 0 1 = cc in absurd (omega arith),
+            λ (s : e .says a ≡ works). clash cc,
             λ none. absurd (first-not-none (e .grounds) (h .0) (h .1) none),
           );
           refused = λ n f. h .2 ∙ ap (e .refusal) (first-once (e .grounds) (h .0) n (h .1) f);
@@ -264,11 +244,11 @@ exactly {A} e a work-says refusal-says o = by (o .is)
 pub outcome-of : {A : Type 0} (e : Entry A) (a : A) → Exactly e a → Outcome (e .grounds) (e .refusal) (e .work) a
 outcome-of e a x = record { is = by (e .says a) refl }
   where
-    by : (v : Verdict) → e .says a ≡ v → (None (e .grounds) × (a ≡ e .work)) ⊎ ((n : ℕ) × First (e .grounds) n × (a ≡ e .refusal n))
+    by : (v : Verdict) → e .says a ≡ v → Went (e .grounds) (e .refusal) (e .work) a
     by works s = let none = x .worked .0 s in inl (none, x .done none)
     by (refuses n) s = let first = x .given n .0 s in inr (n, first, x .refused n first)
 
--- an entry whose answers are told in another way
+-- an entry whose answers are reported in another way
 pub retold-exactly : {A B : Type 0} (e : Entry A) (f : A → B) (code : B → ℕ) → ((a : A) → code (f a) ≡ numberOf (e .says a))
     → ((n : ℕ) → First (e .grounds) n → 0 < n) → (a : A) → Exactly e a → Exactly (retold f code e) (f a)
 retold-exactly e f code told p a x = exactly (retold f code e) (f a) work-says refusal-says (part-of f (outcome-of e a x))

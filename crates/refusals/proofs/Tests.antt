@@ -48,17 +48,17 @@ pub restated : {ok : Bool} {P Q : Type 0} → (P → Q) → (Q → P) → Tests 
 restated {ok} f g t = record { told = other-words f g (not ok) (t .told) }
 
 -- ---- two tests
-neither : {P Q : Type 0} → (P → ⊥) → (Q → ⊥) → P ⊎ Q → ⊥
-neither p q (inl x) = p x
-neither p q (inr y) = q y
+none-of-two : {P Q : Type 0} → (P → ⊥) → (Q → ⊥) → P ⊎ Q → ⊥
+none-of-two p q (inl x) = p x
+none-of-two p q (inr y) = q y
 
-pub either : {a b : Bool} {P Q : Type 0} → Finds a P → Finds b Q → Finds (a || b) (P ⊎ Q)
-either {a} {b} {P} {Q} p q = record { told = by a b (p .told) (q .told) }
+pub either-found : {a b : Bool} {P Q : Type 0} → Finds a P → Finds b Q → Finds (a || b) (P ⊎ Q)
+either-found {a} {b} {P} {Q} p q = record { told = by a b (p .told) (q .told) }
   where
     by : (a b : Bool) → Told a P → Told b Q → Told (a || b) (P ⊎ Q)
     by true b p q = inl p
     by false true p q = inr q
-    by false false p q = neither p q
+    by false false p q = none-of-two p q
 
 pub each : {a b : Bool} {P Q : Type 0} → Finds a P → Finds b Q → Finds (a && b) (P × Q)
 each {a} {b} {P} {Q} p q = record { told = by a b (p .told) (q .told) }
@@ -69,11 +69,11 @@ each {a} {b} {P} {Q} p q = record { told = by a b (p .told) (q .told) }
     by false b p q = λ r. p (r .0)
 
 -- both pass where neither ground holds
-pub both : {a b : Bool} {P Q : Type 0} → Tests a P → Tests b Q → Tests (a && b) (P ⊎ Q)
-both {a} {b} {P} {Q} p q = record { told = by a b (p .told) (q .told) }
+pub both-pass : {a b : Bool} {P Q : Type 0} → Tests a P → Tests b Q → Tests (a && b) (P ⊎ Q)
+both-pass {a} {b} {P} {Q} p q = record { told = by a b (p .told) (q .told) }
   where
     by : (a b : Bool) → Told (not a) P → Told (not b) Q → Told (not (a && b)) (P ⊎ Q)
-    by true true p q = neither p q
+    by true true p q = none-of-two p q
     by true false p q = inr q
     by false b p q = inl p
 
@@ -92,8 +92,8 @@ pub never : Tests true ⊥
 never = record { told = λ g. g }
 
 -- one test decides which of two others is made
-pub choose : {c a b : Bool} {P Q : Type 0} → Finds c P → (P → Finds a Q) → ((P → ⊥) → Finds b Q) → Finds (cond c a b) Q
-choose {c} {a} {b} {P} {Q} t f g = by c (t .told)
+pub found-by-choice : {c a b : Bool} {P Q : Type 0} → Finds c P → (P → Finds a Q) → ((P → ⊥) → Finds b Q) → Finds (cond c a b) Q
+found-by-choice {c} {a} {b} {P} {Q} t f g = by c (t .told)
   where
     by : (c : Bool) → Told c P → Finds (cond c a b) Q
     by true p = f p
@@ -103,7 +103,7 @@ choose {c} {a} {b} {P} {Q} t f g = by c (t .told)
 pub some : {A : Type 0} {test : A → Bool} {P : A → Type 0} → ((x : A) → Finds (test x) (P x)) → (any : List A → Bool)
     → any [] ≡ false → ((x : A) (xs : List A) → any (x ∷ xs) ≡ (test x || any xs)) → (xs : List A) → Finds (any xs) (Some P xs)
 some f any z s [] = rw z (record { told = λ g. g })
-some f any z s (x ∷ xs) = rw (s x xs) (either (f x) (some f any z s xs))
+some f any z s (x ∷ xs) = rw (s x xs) (either-found (f x) (some f any z s xs))
 
 -- ---- numbers
 pub equal : (a b : ℕ) → Finds (eqb a b) (a ≡ b)

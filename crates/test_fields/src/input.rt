@@ -1,4 +1,4 @@
-// Parts of standard input, each behind its length in two bytes, big-endian.
+// Parts of standard input, each after its length in two bytes, big-endian.
 ghost use Prim.Native.Nat.{_<_};
 
 // The length of the next part; or there is none.

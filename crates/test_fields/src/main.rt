@@ -5,27 +5,18 @@
 // Standard input is labels and strings by turns. For each string the program writes `# LABEL`, then
 // a line for each field, or `refused N` with the error code N where it is not fields to its end.
 mod input;
+mod lines;
 mod print;
-mod text;
 
 use input::Input;
 use input::read_part;
+use lines::print_label;
+use lines::print_refused;
 use print::error_code;
 use print::print_fields;
-use text::print_decimal;
-use text::print_start;
-use text::print_text;
-
-fn print_refused(code: u32) {
-    print_text(b"refused ");
-    print_decimal(code as u64);
-    print_text(b"\n");
-}
 
 fn print_string(label: &[u8], label_end: usize, s: &[u8], end: usize) {
-    print_text(b"# ");
-    print_start(label, label_end);
-    print_text(b"\n");
+    print_label(label, label_end);
     let code = error_code(s, end);
     if code == 0 {
         print_fields(0, s, 0, end);

@@ -1,17 +1,15 @@
 // The fields of a string, walked by a field reader and printed as protoc prints them. The reader
 // takes all places, so nothing has to be known here of the places that it answers, and each loop
 // ends by a count of turns that no string uses up.
-use crate::text::print_byte;
-use crate::text::print_close;
-use crate::text::print_decimal;
-use crate::text::print_hex;
-use crate::text::print_name;
-use crate::text::print_open;
-use crate::text::print_quoted;
-use wire_walk::Step;
+use crate::lines::print_close;
+use crate::lines::print_hex;
+use crate::lines::print_number;
+use crate::lines::print_open;
+use crate::lines::print_quoted;
 use wire_read::Field;
 use wire_read::Skip;
 use wire_read::Tag;
+use wire_walk::Step;
 
 // protoc shows bytes as a message above this level; messages and groups count alike.
 const MESSAGE_LEVELS: u32 = 10;
@@ -61,28 +59,21 @@ fn print_nested(level: u32, number: u32, s: &[u8], from: usize, to: usize) {
     print_close(level);
 }
 
-// A field in one line.
+// A field in one line. Groups and what is no field are not printed here.
 fn print_value(level: u32, field: Field, s: &[u8]) {
     match field {
-        Field::Varint(number, value, _) => {
-            print_name(level, number);
-            print_decimal(value);
-        }
-        Field::Fixed64(number, value, _) => {
-            print_name(level, number);
-            print_hex(value, 16);
-        }
-        Field::Bytes(number, start, length) => {
-            print_name(level, number);
-            print_quoted(s, start, end_of(start, length));
-        }
-        Field::Fixed32(number, value, _) => {
-            print_name(level, number);
-            print_hex(value as u64, 8);
-        }
+        Field::Varint(number, value, _) => print_number(level, number, value),
+        Field::Fixed64(number, value, _) => print_hex(level, number, value, 16),
+        Field::Bytes(number, start, length) => print_quoted(
+            level,
+            number,
+            s,
+            start,
+            end_of(start, length),
+        ),
+        Field::Fixed32(number, value, _) => print_hex(level, number, value as u64, 8),
         _ => {}
     }
-    print_byte(b'\n');
 }
 
 // The fields inside a field: its number, where they start and where they end.
@@ -94,7 +85,7 @@ enum Inner {
 // A group has fields inside, and so have bytes that look like a message.
 fn fields_inside(field: Field, level: u32, s: &[u8], at: usize, end: usize) -> Inner {
     match field {
-        Field::Group(number, next) => Inner::Fields(number, behind_tag(s, at, end), next),
+        Field::Group(number, next) => Inner::Fields(number, after_tag(s, at, end), next),
         Field::Bytes(number, start, length) => {
             let stop = end_of(start, length);
             if is_message(level, s, start, stop) {
@@ -148,7 +139,7 @@ fn is_fields(s: &[u8], start: usize, end: usize, depth: u32) -> bool {
     false
 }
 
-// What a reader of the bytes of `s` up to `end` finds at this place, and the place behind it.
+// What a reader of the bytes of `s` up to `end` finds at this place, and the place after it.
 fn step_within(s: &[u8], at: usize, end: usize) -> Step {
     wire_walk::field_at(up_to(s, end), at)
 }
@@ -162,7 +153,7 @@ fn up_to(s: &[u8], end: usize) -> &[u8] {
     s
 }
 
-fn behind_tag(s: &[u8], at: usize, end: usize) -> usize {
+fn after_tag(s: &[u8], at: usize, end: usize) -> usize {
     let tag = wire_read::read_tag(s, at, end);
     match tag {
         Tag::Field(_, _, next) => next,

@@ -6,21 +6,27 @@
 // attachment; the record with a line for each field, or `refused N`; a line for each row; and what
 // became of the row numbers that were lent.
 mod input;
+mod lines;
 mod numbers;
-mod print;
-mod text;
+mod record;
 
 use input::Head;
 use input::Input;
 use input::read_head;
 use input::read_part;
+use lines::print_label;
+use lines::print_lines;
 use message::Answer;
-use message::Kind;
+use message::Located;
+use message::read_spans;
 use numbers::fill;
 use numbers::print_numbers;
-use print::print_answer;
-use text::print_part;
-use text::print_text;
+use numbers::small;
+use record::print_record;
+use record::rows_of;
+use records::Record;
+use records::Span;
+use schema::Kind;
 
 // What the input calls the kinds.
 fn kind_of(number: u8) -> Kind {
@@ -34,42 +40,57 @@ fn kind_of(number: u8) -> Kind {
     }
 }
 
-// What a frame reads as, part by part: the reading holds references, so all that is done with it here is
-// to take one part out.
-fn header_part<'a, 'b>(kind: Kind, frame: &'a [u8], rows: &'b mut [u32]) -> &'a [u8] {
-    let reading = reader::read(kind, frame, rows);
-    reading.header
-}
-
+// The body that `reader::read` hands out. The reading holds references, so all that is done with it here is to take one part out; the
+// other parts are taken from `read_spans`, on which `read` rests.
 fn body_part<'a, 'b>(kind: Kind, frame: &'a [u8], rows: &'b mut [u32]) -> &'a [u8] {
     let reading = reader::read(kind, frame, rows);
     reading.body
 }
 
-fn attachment_part<'a, 'b>(kind: Kind, frame: &'a [u8], rows: &'b mut [u32]) -> &'a [u8] {
-    let reading = reader::read(kind, frame, rows);
-    reading.attachment
-}
-
-fn answer_part<'a, 'b>(kind: Kind, frame: &'a [u8], rows: &'b mut [u32]) -> Answer {
-    let reading = reader::read(kind, frame, rows);
-    reading.answer
-}
-
-fn print_parts(kind: Kind, frame: &[u8], rows: &mut [u32]) {
-    print_part(b"header", header_part(kind, frame, rows));
-    print_part(b"body", body_part(kind, frame, rows));
-    print_part(b"attachment", attachment_part(kind, frame, rows));
-}
-
-// Reads a frame and prints its parts, its record or the error code, and its rows. Reading it again
-// leaves the row numbers as they are.
+// Reads a frame and prints its parts, its record or the error code, and its rows. Reading it again leaves the row numbers as they are.
 fn print_frame(kind: Kind, frame: &[u8], rows: &mut [u32]) {
     fill(rows);
-    print_parts(kind, frame, rows);
-    let answer = answer_part(kind, frame, rows);
-    let count = print_answer(answer, frame);
-    print_numbers(count, frame, rows);
+    let located = read_spans(kind, frame, rows);
+    print_parts(located, body_part(kind, frame, rows), frame);
+    print_answer(answer_of(located), frame, rows);
+}
+
+fn answer_of(located: Located) -> Answer {
+    located.answer
+}
+
+fn print_parts(located: Located, body: &[u8], frame: &[u8]) {
+    print_part(b"header=", located.header, frame);
+    print_body(body);
+    print_part(b"attachment=", located.attachment, frame);
+}
+
+fn print_part(name: &[u8], span: Span, frame: &[u8]) {
+    let values = [span.start, span.len];
+    print_lines(name, &values, frame);
+}
+
+fn print_body(body: &[u8]) {
+    let values = [0, small(body.len())];
+    print_lines(b"body=", &values, body);
+}
+
+fn print_answer(answer: Answer, frame: &[u8], rows: &[u32]) {
+    match answer {
+        Answer::Read(record) => print_read(record, frame, rows),
+        Answer::Refused(code) => print_refused(code, frame, rows),
+    }
+}
+
+fn print_read(record: Record, frame: &[u8], rows: &[u32]) {
+    print_record(record, frame);
+    print_numbers(rows_of(record), frame, rows);
+}
+
+fn print_refused(code: u32, frame: &[u8], rows: &[u32]) {
+    let values = [code];
+    print_lines(b"refused%", &values, frame);
+    print_numbers(0, frame, rows);
 }
 
 // Prints a case, and answers whether it was whole.
@@ -87,9 +108,7 @@ fn print_case(head: Head, label: &mut [u8], frame: &mut [u8], rows: &mut [u32]) 
         return false;
     }
     let start = 0;
-    print_text(b"# ");
-    print_text(&label[start..length]);
-    print_text(b"\n");
+    print_label(&label[start..length]);
     print_frame(
         kind_of(head.kind),
         &frame[start..size],

@@ -1,10 +1,9 @@
 // The row numbers: what is lent to the reader, and what it made of it.
-use crate::text::print_bytes;
-use crate::text::print_decimal;
-use crate::text::print_text;
-ghost use Prim.Native.Nat.{_≤_};
+use crate::lines::print_lines;
+ghost use Prim.Native.Nat.{_+_, _≤_};
+ghost use lib.ListN.{length};
 
-// What stands in the row numbers before a frame is read. No place or length in a frame is as large.
+// What the row numbers are before a frame is read. No place or length in a frame is as large.
 const LENT: u32 = 4294967295;
 
 pub(crate) fn fill(numbers: &mut [u32]) {
@@ -15,48 +14,47 @@ pub(crate) fn fill(numbers: &mut [u32]) {
     }
 }
 
-// Prints the first `count` rows, and then how many row numbers these are, how many zeros follow,
-// and how many numbers behind them are as they were lent. The three sum up to all numbers where
-// there is nothing else.
+// Prints the first `count` rows, and then how many row numbers these are, how many zeros follow, and how many numbers after them
+// are as they were lent. The three sum up to all numbers where there is nothing else.
 pub(crate) fn print_numbers(count: u32, frame: &[u8], numbers: &[u32]) {
-    let rows = print_rows(count, frame, numbers);
+    let rows = row_numbers(count, numbers);
+    print_rows(rows, frame, numbers);
     let zeros = run_end(0, numbers, rows);
     let kept = run_end(LENT, numbers, zeros);
-    print_text(b"numbers ");
-    print_decimal(rows as u64);
-    print_text(b" zeros ");
-    print_decimal((zeros - rows) as u64);
-    print_text(b" kept ");
-    print_decimal((kept - zeros) as u64);
-    print_text(b"\n");
+    let counts = [small(rows), small(zeros - rows), small(kept - zeros)];
+    print_lines(b"numbers# zeros# kept%", &counts, frame);
 }
 
-// Prints rows, as many as there are numbers for, and answers how many numbers they take.
-fn print_rows(count: u32, frame: &[u8], numbers: &[u32]) -> usize {
-    let mut at = 0;
-    let mut left = count;
-    while left > 0 {
-        if numbers.len() - at < 4 {
-            break;
-        }
-        print_text(b"row");
-        print_span(frame, numbers[at], numbers[at + 1]);
-        print_span(frame, numbers[at + 2], numbers[at + 3]);
-        print_text(b"\n");
-        at += 4;
-        left -= 1;
+// How many numbers so many rows take, as far as there are numbers for whole rows.
+fn row_numbers(count: u32, numbers: &[u32]) -> usize
+    ensures { λ r. ⌜ r ≤ length (now (numbers .entry)) ⌝ }
+{
+    let n = count as usize * 4;
+    if n <= numbers.len() {
+        n
+    } else {
+        numbers.len() / 4 * 4
     }
-    at
 }
 
-// ` START LENGTH BYTES` of bytes in the frame.
-pub(crate) fn print_span(frame: &[u8], start: u32, length: u32) {
-    print_text(b" ");
-    print_decimal(start as u64);
-    print_text(b" ");
-    print_decimal(length as u64);
-    print_text(b" ");
-    print_bytes(frame, start as usize, start as usize + length as usize);
+fn print_rows(n: usize, frame: &[u8], numbers: &[u32])
+    requires { ⌜ n ≤ length (now numbers) ⌝ }
+{
+    for i in 0..n / 4 {
+        print_row(i * 4, frame, numbers);
+    }
+}
+
+fn print_row(k: usize, frame: &[u8], numbers: &[u32])
+    requires { ⌜ k + 4 ≤ length (now numbers) ⌝ }
+{
+    let row = [numbers[k], numbers[k + 1], numbers[k + 2], numbers[k + 3]];
+    print_lines(b"row&$", &row, frame);
+}
+
+// A length as a value. None here is as large as 2^32.
+pub(crate) fn small(n: usize) -> u32 {
+    if n < 4294967296 { n as u32 } else { 0 }
 }
 
 // Where the numbers equal to `value` end that start at `from`.

@@ -10,20 +10,20 @@
 // For each case the program writes `# LABEL`; `frame SIZE BYTES` or `refused N`; and how many bytes
 // of the output past the frame are as they were.
 mod input;
+mod lines;
 mod output;
 mod record;
-mod text;
 
 use input::read_numbers;
 use input::read_part;
 use input::read_repeated;
-use message::Record;
+use lines::print_bytes;
+use lines::print_label;
+use lines::print_number;
 use output::count_kept;
 use output::fill;
 use record::record_of;
-use text::print_number;
-use text::print_part;
-use text::print_text;
+use records::Record;
 use writer::Encoded;
 
 // Prints the frame at the start of the output, and answers how long it is.
@@ -32,7 +32,7 @@ fn print_frame(out: &[u8], size: usize) -> usize {
         return 0;
     }
     let start = 0;
-    print_part(b"frame", &out[start..size]);
+    print_bytes(&out[start..size]);
     size
 }
 
@@ -43,11 +43,11 @@ fn print_written(record: Record, source: &[u8], rows: &[u32], body: &[u8], out: 
     let end = match encoded {
         Encoded::Frame(size) => print_frame(out, size),
         Encoded::Refused(code) => {
-            print_number(b"refused", code as u64);
+            print_number(b"refused ", code as u64);
             0
         }
     };
-    print_number(b"kept", count_kept(out, end) as u64);
+    print_number(b"kept ", count_kept(out, end) as u64);
 }
 
 // Reads what follows the numbers of a case, and answers whether it was there.
@@ -70,16 +70,14 @@ fn read_case(
     read_repeated(body, head[6] as usize, head[3] as usize)
 }
 
-// The line `# LABEL`.
-fn print_label(head: [u32; 10], label: &[u8]) {
+// The label is the first bytes of what is lent for it.
+fn print_case_label(head: [u32; 10], label: &[u8]) {
     let size = head[0] as usize;
     if size > label.len() {
         return;
     }
     let start = 0;
-    print_text(b"# ");
-    print_text(&label[start..size]);
-    print_text(b"\n");
+    print_label(&label[start..size]);
 }
 
 // Prints what is written of a case, and answers whether all of it can be held.
@@ -131,7 +129,7 @@ fn print_next(
     if !read_case(head, label, rows, source, body) {
         return false;
     }
-    print_label(head, label);
+    print_case_label(head, label);
     print_case(head, fields, rows, source, body, out)
 }
 

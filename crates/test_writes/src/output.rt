@@ -1,4 +1,4 @@
-// The output that is lent to the writer: what stands in it before, and how much of that stays.
+// The output that is lent to the writer: what is in it before, and how much of that stays.
 
 // The byte at place `i` before a frame is written.
 fn pattern(i: usize) -> u8 {

@@ -15,26 +15,28 @@ use native.Mathlib.Omega.{arith}
 use borrow.Author.Tests.{eqb-false}
 use lib.Dec.{eqb}
 use lib.ListN.{length, take, drop, getD}
-use Rattle.message.specs.Records.{recordOf, attachmentSizeOf}
+use Rattle.records.specs.Records.{recordOf, attachmentSizeOf}
 use Rattle.message.specs.Frames.{readFrame, lastBytes}
-use Rattle.message.specs.declared.Kind.{Kind}
-use Rattle.message.specs.declared.Kind.the-variants as kinds
-use Rattle.message.specs.declared.Record.{Record}
+use Rattle.schema.specs.declared.Kind.{Kind}
+use Rattle.schema.specs.declared.Kind.the-variants as kinds
+use Rattle.records.specs.declared.Record.{Record}
 use Rattle.message.specs.declared.Answer.{Answer}
 use Rattle.message.specs.declared.Answer.the-variants as answers
-use Rattle.outgoing.specs.Content.{kindOf, recordId, slotsOf}
+use Rattle.records.specs.Content.{kindOf, recordId, slotsOf}
 use Rattle.writer.specs.Writing.{Writing, refusedWith, wrote, frameOf, writeError, written, errorOf, countOf}
 use Rattle.writer.specs.declared.Encoded.{Encoded}
 use Rattle.writer.specs.declared.Encoded.the-variants.{Frame, Refused}
 use Rattle.bekurapi.specs.Answers.{answerError}
 use Rattle.bekurapi.specs.Numbers.{recordFrom}
-use Rattle.bekurapi.proofs.Back.{low, read-back}
-use Rattle.thm_round_trip.specs.Meaning.{allOf, Meaning, says, refused, meaning, answerMeaning, fieldsOf, InRange}
-use Rattle.thm_round_trip.specs.Statement.{ReadsBack}
+use Rattle.wire_read.proofs.SignedLaws.{low-small}
+use Rattle.thm_c.proofs.NumbersBack.{reading-back}
+use Rattle.message.specs.Meaning.{allOf, Meaning, says, refused, meaning, answerMeaning, fieldsOf}
+use Rattle.thm_round_trip.specs.InRange.{InRange}
+use Rattle.thm_round_trip.specs.ReadsBack.{ReadsBack}
 use Rattle.thm_round_trip.proofs.RoundTrip.{round-trip}
-use Rattle.thm_c.specs.Readings.{Read, Reads, CReading, wholeOf}
-use Rattle.thm_c.specs.RoundTrip.{Written, Writes, Words, CReadsBack}
-use Rattle.thm_c.proofs.Told.{choose}
+use Rattle.thm_c.specs.Readings.{CRead, CReads, CReading, wholeOf}
+use Rattle.thm_c.specs.RoundTrip.{CWritten, CWrites, Words, CReadsBack}
+use Rattle.laws.proofs.Booleans.{choose}
 use Rattle.thm_c.proofs.CReading.{header-part, body-part, attachment-part}
 
 -- ---- the record of a kind from its numbers
@@ -77,17 +79,18 @@ words-drop zero l w = w
 words-drop (suc n) [] w = tt
 words-drop (suc n) (x ∷ l) w = words-drop n l (w .1)
 
-in-range : (source : List ℕ) (k : Kind) (id : ℕ) (l : List ℕ) (rows : ℕ) → ((i : ℕ) → getD l i 0 < 2 ^ 32)
+slots-in-range : (source : List ℕ) (k : Kind) (id : ℕ) (l : List ℕ) (rows : ℕ) → ((i : ℕ) → getD l i 0 < 2 ^ 32)
     → InRange (fieldsOf source (recordOf k id l rows))
 unfolding recordOf fieldsOf
-in-range source kinds.Request id l rows w = (w 0, (w 1, (w 2, (w 3, (w 10, (w 11, (w 12, (w 13, tt))))))))
-in-range source kinds.Response id l rows w = (w 0, (w 1, (w 2, (low (getD l 3 0), (low (getD l 4 0), (w 7, (w 8, (w 9, (w 10, tt)))))))))
-in-range source kinds.Init id l rows w = (w 7, (low (getD l 9 0), (w 12, (w 13, (w 14, tt)))))
-in-range source kinds.Data id l rows w = tt
-in-range source kinds.Feedback id l rows w = (w 0, tt)
-in-range source kinds.Close id l rows w = (low (getD l 0 0), (low (getD l 1 0), (w 4, (low (getD l 5 0), tt))))
+slots-in-range source kinds.Request id l rows w = (w 0, (w 1, (w 2, (w 3, (w 10, (w 11, (w 12, (w 13, tt))))))))
+slots-in-range source kinds.Response id l rows w =
+    (w 0, (w 1, (w 2, (low-small (getD l 3 0), (low-small (getD l 4 0), (w 7, (w 8, (w 9, (w 10, tt)))))))))
+slots-in-range source kinds.Init id l rows w = (w 7, (low-small (getD l 9 0), (w 12, (w 13, (w 14, tt)))))
+slots-in-range source kinds.Data id l rows w = tt
+slots-in-range source kinds.Feedback id l rows w = (w 0, tt)
+slots-in-range source kinds.Close id l rows w = (low-small (getD l 0 0), (low-small (getD l 1 0), (w 4, (low-small (getD l 5 0), tt))))
 
--- ---- what 0 tells of a call of the writer
+-- ---- what 0 says of a call of the writer
 abbrev Coded : Encoded → Type 0
 Coded (Frame size) = Unit {0}
 Coded (Refused code) = code ≡ 0 → ⊥
@@ -107,22 +110,18 @@ coded-by r source numbers body output =
     (λ n. eqb-false error 0 n)
 
 -- ---- an answer that says something is a record
-abbrev Says : Meaning → Type 0
-Says (says k id fields rows) = Unit {0}
-Says (refused code) = ⊥
+abbrev SaysRecord : Meaning → Type 0
+SaysRecord (says k id fields rows) = Unit {0}
+SaysRecord (refused code) = ⊥
 
-is-read : (a : Answer) (source numbers : List ℕ) → Says (answerMeaning a source numbers) → (r : Record) × (a ≡ answers.Read r)
+is-read : (a : Answer) (source numbers : List ℕ) → SaysRecord (answerMeaning a source numbers) → (r : Record) × (a ≡ answers.Read r)
 unfolding answerMeaning
 is-read (answers.Read r) source numbers s = (r, refl)
 is-read (answers.Refused code) source numbers s = absurd s
 
-no-error : (r : Record) → answerError (answers.Read r) ≡ 0
-unfolding answerError
-no-error r = refl
-
-answered : (r : Record) (source numbers : List ℕ) → meaning r source numbers ≡ answerMeaning (answers.Read r) source numbers
+read-means : (r : Record) (source numbers : List ℕ) → meaning r source numbers ≡ answerMeaning (answers.Read r) source numbers
 unfolding answerMeaning
-answered r source numbers = refl
+read-means r source numbers = refl
 
 -- ---- what was written, read
 module _ (kind : Kind) (numbers source rows body out lent : List ℕ) (words : Words numbers) (long : 256 ≤ length lent) where
@@ -138,13 +137,13 @@ module _ (kind : Kind) (numbers source rows body out lent : List ℕ) (words : W
   abbrev count : ℕ
   count = getD numbers 1 0
 
-  small : recordId r < 2 ^ 32
-  small = subst (λ (n : ℕ). n < 2 ^ 32) (sym (id-is id fields count kind)) (word-at numbers words 0)
+  id-small : recordId r < 2 ^ 32
+  id-small = subst (λ (n : ℕ). n < 2 ^ 32) (sym (id-is id fields count kind)) (word-at numbers words 0)
 
   fields-small : InRange (fieldsOf source r)
-  fields-small = in-range source kind id fields count (word-at fields (words-drop 8 numbers words))
+  fields-small = slots-in-range source kind id fields count (word-at fields (words-drop 8 numbers words))
 
-  module _ (w : Written) (writes : Writes kind numbers source rows body out w) (done : w .code ≡ 0) where
+  module _ (w : CWritten) (writes : CWrites kind numbers source rows body out w) (done : w .code ≡ 0) where
     answer-is : written r source rows body out .answer ≡ Frame (w .size)
     answer-is =
         framed (written r source rows body out .answer) (coded-by r source rows body out) (sym (writes .code-is) ∙ done)
@@ -156,7 +155,7 @@ module _ (kind : Kind) (numbers source rows body out lent : List ℕ) (words : W
     back : ReadsBack r source rows body frame lent
     back =
         subst (λ (o : List ℕ). ReadsBack r source rows body (take (w .size) o) lent) (sym (writes .output-is))
-        (round-trip r source rows body out lent (w .size) small fields-small long answer-is)
+        (round-trip r source rows body out lent (w .size) id-small fields-small long answer-is)
 
     -- the reading as the record's own kind is that as the kind named
     as-kind : {A : Type 0} (P : Kind → A) → P kind ≡ P (kindOf r)
@@ -168,16 +167,16 @@ module _ (kind : Kind) (numbers source rows body out lent : List ℕ) (words : W
     again : (z : Record) × (readFrame kind frame lent .answer ≡ answers.Read z)
     again =
         is-read (readFrame kind frame lent .answer) frame (readFrame kind frame lent .rows)
-        (subst Says (sym (as-kind said-as ∙ back .same-record)) tt)
+        (subst SaysRecord (sym (as-kind said-as ∙ back .same-record)) tt)
 
-    pub read-again : (x : Read) → Reads kind frame lent x → CReadsBack kind numbers source rows body frame x
+    pub read-again : (x : CRead) → CReads kind frame lent x → CReadsBack kind numbers source rows body frame x
     read-again x reads =
         record {
-          accepted = reads .code-is ∙ ap answerError (again .1) ∙ no-error (again .0);
+          code-zero = reads .code-is ∙ ap answerError (again .1);
           same-record =
               ap (λ (l : List ℕ). meaning (recordFrom kind l) frame (x .rows)) (reads .numbers-are)
-              ∙ ap (λ (z : Record). meaning z frame (x .rows)) (read-back kind frame lent (length frame) (again .0) (again .1))
-              ∙ answered (again .0) frame (x .rows)
+              ∙ ap (λ (z : Record). meaning z frame (x .rows)) (reading-back kind frame lent (length frame) (again .0) (again .1))
+              ∙ read-means (again .0) frame (x .rows)
               ∙ ap (λ (a : Answer). answerMeaning a frame (x .rows)) (sym (again .1))
               ∙ ap (λ (l : List ℕ). answerMeaning (readFrame kind frame lent .answer) frame l) (reads .rows-are)
               ∙ as-kind said-as
@@ -190,9 +189,9 @@ module _ (kind : Kind) (numbers source rows body out lent : List ℕ) (words : W
               (attachment-size-is id fields count kind));
         }
 
-pub c-read-back : (kind : Kind) (numbers source rows body out lent : List ℕ) (w : Written) (x : Read)
-    → Words numbers → 256 ≤ length lent → Writes kind numbers source rows body out w → w .code ≡ 0
-    → Reads kind (take (w .size) (w .out)) lent x
+pub c-read-back : (kind : Kind) (numbers source rows body out lent : List ℕ) (w : CWritten) (x : CRead)
+    → Words numbers → 256 ≤ length lent → CWrites kind numbers source rows body out w → w .code ≡ 0
+    → CReads kind (take (w .size) (w .out)) lent x
     → CReadsBack kind numbers source rows body (take (w .size) (w .out)) x
 c-read-back kind numbers source rows body out lent w x words long writes done reads =
     read-again kind numbers source rows body out lent words long w writes done x reads

@@ -14,26 +14,27 @@ use native.Mathlib.Omega.{arith}
 use borrow.Author.Tests.{eqb-false, eq-eqb, ne-eqb}
 use lib.Dec.{eqb, ltb, leb}
 use lib.ListN.{length, take, getD, replicate}
-use Rattle.deframer.specs.Header.{headerError, totalOf}
+use Rattle.fixed_header.specs.Header.{headerError, totalOf}
 use Rattle.decoder.specs.Rows.{rowNumbers}
 use Rattle.decoder.specs.Fields.{Result, ok, refused, readMessage}
 use Rattle.decoder.proofs.Results.{Sound, message-sound}
-use Rattle.message.specs.Records.{schemaOf, attachmentSizeOf}
+use Rattle.schema.specs.Kinds.{schemaOf}
+use Rattle.records.specs.Records.{attachmentSizeOf}
 use Rattle.message.specs.Frames.{Reading, headerOf, bodyOf, kindFits, withAttachment, answered, readFrame}
 use Rattle.message.specs.Spans.{spanFrom, bytesAt, spansOf}
-use Rattle.message.specs.declared.Span.{Span}
-use Rattle.message.specs.declared.Kind.{Kind}
-use Rattle.message.specs.declared.Record.{Record}
+use Rattle.records.specs.declared.Span.{Span}
+use Rattle.schema.specs.declared.Kind.{Kind}
+use Rattle.records.specs.declared.Record.{Record}
 use Rattle.message.specs.declared.Answer.{Answer}
 use Rattle.message.specs.declared.Answer.the-variants as answers
 use Rattle.message.specs.declared.Located.{Located}
 use Rattle.message.proofs.SpansStand.{spans-stand}
 use Rattle.bekurapi.specs.Answers.{answerError}
 use Rattle.bekurapi.specs.Numbers.{answerId, answerRows, answerSlots, numbersOf, recordFrom}
-use Rattle.bekurapi.proofs.Back.{read-back}
-use Rattle.thm_round_trip.specs.Meaning.{Bytes, bytesFrom, allOf}
-use Rattle.thm_c.specs.Readings.{Read, Reads, partAt, CReading, saidBy, wholeOf, ReadOf}
-use Rattle.thm_c.proofs.Told.{choose}
+use Rattle.thm_c.proofs.NumbersBack.{reading-back}
+use Rattle.message.specs.Meaning.{Bytes, bytesFrom, allOf}
+use Rattle.thm_c.specs.Readings.{CRead, CReads, partAt, CReading, saidBy, wholeOf, CReadOf}
+use Rattle.laws.proofs.Booleans.{choose}
 
 -- ---- a refusal has a number that is not 0, and no parts
 abbrev BareBy : Answer → Reading → Type 0
@@ -72,7 +73,6 @@ spans-all f l s size e =
 zero-numbers : (l : Located) (code : ℕ) → l .answer ≡ answers.Refused code → l .header ≡ spanFrom 0 0 → l .body ≡ spanFrom 0 0
     → l .attachment ≡ spanFrom 0 0
     → numbersOf l ≡ replicate 24 0
-unfolding answerId answerRows answerSlots
 zero-numbers l code e h b a = rw (e, h, b, a) refl
 
 module _ (kind : Kind) (frame lent : List ℕ) where
@@ -82,22 +82,20 @@ module _ (kind : Kind) (frame lent : List ℕ) where
   abbrev spans : Located
   spans = spansOf given (length frame)
 
-  module _ (x : Read) (reads : Reads kind frame lent x) where
+  module _ (x : CRead) (reads : CReads kind frame lent x) where
     abbrev Answered : Answer → Type 0
     Answered a = cond (eqb (x .code) 0) (answers.Read (recordFrom kind (x .numbers))) (answers.Refused (x .code)) ≡ a
 
     answer-is : (a : Answer) → given .answer ≡ a → BareBy a given → Answered a
-    unfolding answerError
     answer-is (answers.Read r) e b =
         let done : x .code ≡ 0 = reads .code-is ∙ ap answerError e in
-        let said = ap (recordFrom kind) (reads .numbers-are) ∙ read-back kind frame lent (length frame) r e in
+        let said = ap (recordFrom kind) (reads .numbers-are) ∙ reading-back kind frame lent (length frame) r e in
         rw (eq-eqb (x .code) 0 done) (ap answers.Read said)
     answer-is (answers.Refused code) e b =
         let is : x .code ≡ code = reads .code-is ∙ ap answerError e in
         rw (is, ne-eqb code 0 (b .0)) refl
 
     zeros : (a : Answer) → given .answer ≡ a → BareBy a given → (x .code ≡ 0 → ⊥) → x .numbers ≡ replicate 24 0
-    unfolding answerError
     zeros (answers.Read r) e b z = absurd (z (reads .code-is ∙ ap answerError e))
     zeros (answers.Refused code) e b z =
         reads .numbers-are
@@ -117,7 +115,7 @@ module _ (kind : Kind) (frame lent : List ℕ) where
     pub attachment-part : partAt frame (x .numbers) 6 ≡ allOf (given .attachment)
     attachment-part = part 6 (given .attachment) (spans .attachment) refl refl (spans-stand frame kind lent .attachment-stands)
 
-    pub read-of : ReadOf kind frame lent x
+    pub read-of : CReadOf kind frame lent x
     read-of =
         record {
           numbers = reads;

@@ -11,34 +11,35 @@ use mathlib.Core.List.{List}
 use lib.ListN.{length}
 use Rattle.decoder.specs.Rows.{rowsIn}
 use Rattle.decoder.specs.Fields.{blank}
-use Rattle.message.specs.Records.{recordOf}
+use Rattle.records.specs.Records.{recordOf}
 use Rattle.message.specs.Frames.{Reading, readFrame}
 use Rattle.message.specs.Spans.{spansOf as located}
-use Rattle.message.specs.declared.Kind.{Kind}
-use Rattle.message.specs.declared.Record.{Record}
+use Rattle.schema.specs.declared.Kind.{Kind}
+use Rattle.records.specs.declared.Record.{Record}
 use Rattle.message.specs.declared.Answer.{Answer}
 use Rattle.message.specs.declared.Answer.the-variants as answers
 use Rattle.message.specs.declared.Located.{Located}
-use Rattle.outgoing.specs.Content.{rowCount}
+use Rattle.records.specs.Content.{rowCount}
 use Rattle.bekurapi.specs.Numbers.{answerId, answerRows, answerSlots, numbersOf, recordFrom}
-use Rattle.bekurapi.proofs.Back.{read-back}
+use Rattle.thm_c.proofs.NumbersBack.{reading-back}
 use Rattle.thm_round_trip.specs.Refusals.{recordSpans}
-use Rattle.read_within.specs.Within.{RowLies, Each}
-use Rattle.read_within.specs.Statement.{SpanLies, ReadWithin, spansIn, countedIn}
-use Rattle.read_within.proofs.ReadWithin.{blank-lies, record-lies, count-is, read-within}
-use Rattle.thm_c.specs.Readings.{Read, Reads}
+use Rattle.refusals.specs.Grounds.{Every}
+use Rattle.thm_round_trip.specs.Lies.{RowLies}
+use Rattle.thm_round_trip.specs.ReadWithin.{SpanLies, ReadWithin, spansIn, countedIn}
+use Rattle.thm_round_trip.proofs.ReadWithin.{blank-lies, record-lies, count-is, read-within}
+use Rattle.thm_c.specs.Readings.{CRead, CReads}
 use Rattle.thm_c.specs.Within.{locatedFrom}
 
 module _ (frame : List ℕ) (kind : Kind) where
   -- what a record and its row numbers hand out
   abbrev Handed : (rows : List ℕ) → Record → Type 0
-  Handed rows r = Each (SpanLies frame) (recordSpans r) × Each (RowLies (length frame)) (rowsIn (rowCount r) rows)
+  Handed rows r = Every (SpanLies frame) (recordSpans r) × Every (RowLies (length frame)) (rowsIn (rowCount r) rows)
 
   -- "A refused record .. is all zero"
   zero-handed : (code : ℕ) (rows : List ℕ)
       → Handed rows (recordOf kind (answerId (answers.Refused code)) (answerSlots (answers.Refused code))
       (answerRows (answers.Refused code)))
-  unfolding answerId answerRows answerSlots rowsIn
+  unfolding rowsIn
   zero-handed code rows =
       (record-lies frame kind 0 (blank .slots) 0 (blank-lies frame kind), rw (count-is frame kind 0 (blank .slots) 0) tt)
 
@@ -49,10 +50,11 @@ module _ (frame : List ℕ) (kind : Kind) where
     abbrev gave : Located
     gave = located given (length frame)
 
-    handed : (a : Answer) → given .answer ≡ a → Each (SpanLies frame) (spansIn a)
-        → Each (RowLies (length frame)) (rowsIn (countedIn a) (given .rows))
+    handed : (a : Answer) → given .answer ≡ a → Every (SpanLies frame) (spansIn a)
+        → Every (RowLies (length frame)) (rowsIn (countedIn a) (given .rows))
         → Handed (given .rows) (recordFrom kind (numbersOf gave))
-    handed (answers.Read r) e fields rows = subst (Handed (given .rows)) (sym (read-back kind frame lent (length frame) r e)) (fields, rows)
+    handed (answers.Read r) e fields rows =
+        subst (Handed (given .rows)) (sym (reading-back kind frame lent (length frame) r e)) (fields, rows)
     handed (answers.Refused code) e fields rows =
         subst (λ (a : Answer). Handed (given .rows) (recordOf kind (answerId a) (answerSlots a) (answerRows a))) (sym e)
         (zero-handed code (given .rows))
@@ -63,7 +65,7 @@ module _ (frame : List ℕ) (kind : Kind) where
         let own = handed (given .answer) refl (all .fields) (all .rows) in
         record { fields = own .0; rows = own .1; header = all .header; body = all .body; attachment = all .attachment }
 
-pub c-read-within : (kind : Kind) (frame lent : List ℕ) (x : Read) → Reads kind frame lent x
+pub c-read-within : (kind : Kind) (frame lent : List ℕ) (x : CRead) → CReads kind frame lent x
     → ReadWithin frame (locatedFrom kind (x .numbers)) (x .rows)
 c-read-within kind frame lent x reads =
     subst (λ (l : List ℕ). ReadWithin frame (locatedFrom kind l) (x .rows)) (sym (reads .numbers-are))

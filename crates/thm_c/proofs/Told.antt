@@ -2,28 +2,24 @@
 -- rest.
 use Prim.Native.Nat.{ℕ}
 use mathlib.Core.Path.{_≡_, refl}
-use mathlib.Core.Bool.{Bool, true, false, not, cond}
+use mathlib.Core.Bool.{not}
 use mathlib.Core.List.{List}
 use native.Mathlib.Omega.{arith}
 use borrow.Author.Tests.{eqb-false, ne-eqb, not-true}
 use lib.Dec.{eqb, ltb}
 use lib.ListN.{length, take}
-use Rattle.deframer.specs.Header.{maxFrame}
+use Rattle.laws.proofs.Booleans.{choose}
+use Rattle.fixed_header.specs.Header.{maxFrame}
 use Rattle.deframer.specs.Deframe.{Out, knownOf, stream, nextFrame, deframed, ended}
 use Rattle.deframer.specs.declared.Deframer.{Deframer}
 use Rattle.deframer.specs.declared.Progress.{Progress}
 use Rattle.deframer.specs.declared.Progress.the-variants.{Frame, NeedMore, Refused}
 use Rattle.deframer.specs.declared.End.{End}
 use Rattle.deframer.specs.declared.End.the-variants as end
-use Rattle.deframer.proofs.Codes.{good-total}
+use Rattle.fixed_header.proofs.Codes.{good-total}
 use Rattle.deframer.proofs.Advance.{next-short, next-bad, next-part, next-whole, Shape, short, bad, part, whole, shape}
 use Rattle.bekurapi.specs.Answers.{progressError, progressSize, endError, endShort}
 use Rattle.thm_c.specs.Calls.{progressOf, endOf}
-
--- what holds of both cases of a test, each by what the test was, holds of its choice
-pub choose : {A : Type 0} (P : A → Type 0) (b : Bool) (x y : A) → (b ≡ true → P x) → (b ≡ false → P y) → P (cond b x y)
-choose P true x y f g = f refl
-choose P false x y f g = g refl
 
 -- ---- a call of the deframer
 abbrev Told : Progress → Type 0
@@ -32,7 +28,6 @@ Told NeedMore = Unit {0}
 Told (Refused code) = code ≡ 0 → ⊥
 
 told-back : (p : Progress) → Told p → progressOf (progressError p) (progressSize p) ≡ p
-unfolding progressError progressSize
 told-back (Frame size) t = rw (ne-eqb size 0 t) refl
 told-back NeedMore t = refl
 told-back (Refused code) t = rw (ne-eqb code 0 t) refl
@@ -69,7 +64,6 @@ TellsEnd (end.Short count) = count ≡ 0 → ⊥
 TellsEnd (end.Refused code) = code ≡ 0 → ⊥
 
 tells-back : (e : End) → TellsEnd e → endOf (endError e) (endShort e) ≡ e
-unfolding endError endShort
 tells-back end.Clean t = refl
 tells-back (end.Short count) t = rw (ne-eqb count 0 t) refl
 tells-back (end.Refused code) t = rw (ne-eqb code 0 t) refl

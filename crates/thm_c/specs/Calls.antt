@@ -9,18 +9,18 @@ use mathlib.Core.List.{List, [], _∷_, map}
 use lib.Dec.{eqb}
 use Rattle.deframer.specs.Deframe.{Out, ended}
 use Rattle.deframer.specs.Stream.{uncut}
-use Rattle.deframer.specs.Calls.{Event, pushed, finished, pushedWrong, finishedWrong, takenOf, RefusedBy, Faithful}
+use Rattle.thm_stream.specs.Calls.{Event, pushed, finished, pushedWrong, finishedWrong, takenOf, RefusedBy, Faithful}
 use Rattle.deframer.specs.declared.Progress.{Progress}
 use Rattle.deframer.specs.declared.Progress.the-variants.{Frame, NeedMore, Refused}
 use Rattle.deframer.specs.declared.End.{End}
 use Rattle.deframer.specs.declared.End.the-variants as end
-use Rattle.reader.specs.Stream.{Naming}
-use Rattle.bekurapi.specs.Answers.{stateOf, DeframedAs, endError, endShort}
-use Rattle.thm_c.specs.Readings.{Read, Reads, ReadOf}
+use Rattle.thm_stream.specs.Readings.{Naming}
+use Rattle.bekurapi.specs.Answers.{deframerOf, DeframedAs, endError, endShort}
+use Rattle.thm_c.specs.Readings.{CRead, CReads, CReadOf}
 
 -- ---- what C has after a call: the number returned, and what is in all that was lent
 
-pub record Deframed : Type 0 where
+pub record CDeframed : Type 0 where
   pub code : ℕ
   pub held : ℕ
   pub error : ℕ
@@ -28,35 +28,35 @@ pub record Deframed : Type 0 where
   pub taken : ℕ
   pub size : ℕ
 
-pub record Finished : Type 0 where
+pub record CFinished : Type 0 where
   pub code : ℕ
   pub short-by : ℕ
 
 -- ---- the `ensures` of each function, of what a call of it gave
 
-abbrev pub Deframes : (held error : ℕ) → (buffer piece : List ℕ) → Deframed → Type 0
-Deframes held error buffer piece d = DeframedAs held error buffer piece (d .code) (d .held) (d .error) (d .buffer) (d .taken) (d .size)
+abbrev pub CDeframes : (held error : ℕ) → (buffer piece : List ℕ) → CDeframed → Type 0
+CDeframes held error buffer piece d = DeframedAs held error buffer piece (d .code) (d .held) (d .error) (d .buffer) (d .taken) (d .size)
 
-abbrev pub Finishes : (held error : ℕ) → (buffer : List ℕ) → Finished → Type 0
-Finishes held error buffer f =
-    (f .code ≡ endError (ended (stateOf held error) buffer)) × (f .short-by ≡ endShort (ended (stateOf held error) buffer))
+abbrev pub CFinishes : (held error : ℕ) → (buffer : List ℕ) → CFinished → Type 0
+CFinishes held error buffer f =
+    (f .code ≡ endError (ended (deframerOf held error) buffer)) × (f .short-by ≡ endShort (ended (deframerOf held error) buffer))
 
 -- ---- the calls of the deframer and of the end of a stream
 
 -- the two last are made with any state and any buffer, of which a call is refused with 1 or 2
 pub data CEvent : Type 0 where
-  deframe : (piece : List ℕ) → Deframed → CEvent
-  finish : Finished → CEvent
-  deframeWrong : (held error : ℕ) → (buffer piece : List ℕ) → Deframed → CEvent
-  finishWrong : (held error : ℕ) → (buffer : List ℕ) → Finished → CEvent
+  deframe : (piece : List ℕ) → CDeframed → CEvent
+  finish : CFinished → CEvent
+  deframeWrong : (held error : ℕ) → (buffer piece : List ℕ) → CDeframed → CEvent
+  finishWrong : (held error : ℕ) → (buffer : List ℕ) → CFinished → CEvent
 
 -- each call of the others found state and buffer as the one before it left them
 abbrev pub CTrace : (held error : ℕ) → (buffer : List ℕ) → List CEvent → Type 0
 CTrace held error buffer [] = Unit {0}
-CTrace held error buffer (deframe piece d ∷ events) = Deframes held error buffer piece d × CTrace (d .held) (d .error) (d .buffer) events
-CTrace held error buffer (finish f ∷ events) = Finishes held error buffer f × CTrace held error buffer events
-CTrace held error buffer (deframeWrong h e b piece d ∷ events) = Deframes h e b piece d × CTrace held error buffer events
-CTrace held error buffer (finishWrong h e b f ∷ events) = Finishes h e b f × CTrace held error buffer events
+CTrace held error buffer (deframe piece d ∷ events) = CDeframes held error buffer piece d × CTrace (d .held) (d .error) (d .buffer) events
+CTrace held error buffer (finish f ∷ events) = CFinishes held error buffer f × CTrace held error buffer events
+CTrace held error buffer (deframeWrong h e b piece d ∷ events) = CDeframes h e b piece d × CTrace held error buffer events
+CTrace held error buffer (finishWrong h e b f ∷ events) = CFinishes h e b f × CTrace held error buffer events
 
 -- ---- what the numbers say
 
@@ -68,40 +68,40 @@ progressOf code size = cond (eqb code 0) (cond (eqb size 0) NeedMore (Frame size
 abbrev pub endOf : (code short-by : ℕ) → End
 endOf code short-by = cond (eqb code 0) (cond (eqb short-by 0) end.Clean (end.Short short-by)) (end.Refused code)
 
--- the same call as `frame` has it
-abbrev pub outOf : Deframed → Out
+-- the same call as `deframer` has it
+abbrev pub outOf : CDeframed → Out
 outOf d =
     record {
-      step = record { progress = progressOf (d .code) (d .size); next = stateOf (d .held) (d .error); taken = d .taken };
+      step = record { progress = progressOf (d .code) (d .size); next = deframerOf (d .held) (d .error); taken = d .taken };
       buffer = d .buffer;
     }
 
-abbrev pub eventOf : CEvent → Event
-eventOf (deframe piece d) = pushed piece (outOf d)
-eventOf (finish f) = finished (endOf (f .code) (f .short-by))
-eventOf (deframeWrong h e b piece d) = pushedWrong (stateOf h e) b (outOf d)
-eventOf (finishWrong h e b f) = finishedWrong (stateOf h e) b (endOf (f .code) (f .short-by))
+abbrev pub cEventOf : CEvent → Event
+cEventOf (deframe piece d) = pushed piece (outOf d)
+cEventOf (finish f) = finished (endOf (f .code) (f .short-by))
+cEventOf (deframeWrong h e b piece d) = pushedWrong (deframerOf h e) b (outOf d)
+cEventOf (finishWrong h e b f) = finishedWrong (deframerOf h e) b (endOf (f .code) (f .short-by))
 
 -- ---- the readings: a call of the reader of the kind that is named for the frame, with the row numbers lent for it
 
-abbrev pub ReadsNamed : Naming → ℕ → (frame : List ℕ) → Read → Type 0
-ReadsNamed named n frame x = Reads (named n .kind) frame (named n .lent) x
+abbrev pub CReadsNamed : Naming → ℕ → (frame : List ℕ) → CRead → Type 0
+CReadsNamed named n frame x = CReads (named n .kind) frame (named n .lent) x
 
-abbrev pub ReadOfNamed : Naming → ℕ → (frame : List ℕ) → Read → Type 0
-ReadOfNamed named n frame x = ReadOf (named n .kind) frame (named n .lent) x
+abbrev pub CReadOfNamed : Naming → ℕ → (frame : List ℕ) → CRead → Type 0
+CReadOfNamed named n frame x = CReadOf (named n .kind) frame (named n .lent) x
 
 -- P of each frame and of what was read of it, by the frame's number; `n` frames came before
-abbrev pub OfEach : (P : ℕ → (frame : List ℕ) → Read → Type 0) → ℕ → (frames : List (List ℕ)) → List Read → Type 0
+abbrev pub OfEach : (P : ℕ → (frame : List ℕ) → CRead → Type 0) → ℕ → (frames : List (List ℕ)) → List CRead → Type 0
 OfEach P n [] xs = xs ≡ []
 OfEach P n (frame ∷ frames) [] = ⊥
 OfEach P n (frame ∷ frames) (x ∷ xs) = P n frame x × OfEach P (suc n) frames xs
 
 -- ---- the statement: what holds of the calls and their readings, where the pieces come from `bytes`
-pub record CFaithful (named : Naming) (bytes : List ℕ) (events : List CEvent) (readings : List Read) : Type 0 where
+pub record CFaithful (named : Naming) (bytes : List ℕ) (events : List CEvent) (readings : List CRead) : Type 0 where
   -- frames, what each call answered and took, that the frames tile the bytes taken, the verdict and its finality
-  pub stream : Faithful bytes (map eventOf events)
+  pub stream : Faithful bytes (map cEventOf events)
   -- "frames, parts, records, rows .. are those of the uncut reading of the bytes taken"
-  pub readings-are : OfEach (ReadOfNamed named) 0 (uncut (takenOf (map eventOf events)) .frames) readings
+  pub readings-are : OfEach (CReadOfNamed named) 0 (uncut (takenOf (map cEventOf events)) .frames) readings
   -- "and of all bytes once all are taken or a header is refused"
-  pub all : (takenOf (map eventOf events) ≡ bytes) ⊎ ((code : ℕ) × RefusedBy code (map eventOf events))
-      → OfEach (ReadOfNamed named) 0 (uncut bytes .frames) readings
+  pub all : (takenOf (map cEventOf events) ≡ bytes) ⊎ ((code : ℕ) × RefusedBy code (map cEventOf events))
+      → OfEach (CReadOfNamed named) 0 (uncut bytes .frames) readings

@@ -5,15 +5,15 @@ use mathlib.Core.Path.{_≡_}
 use mathlib.Core.Bool.{cond}
 use mathlib.Core.List.{List}
 use lib.Dec.{eqb}
-use Rattle.deframer.specs.Header.{headerError}
-use Rattle.deframer.specs.declared.FrameType.{FrameType}
-use Rattle.deframer.specs.declared.FrameType.the-variants.{Unary, Init, Data, Feedback, Close}
-use Rattle.deframer.specs.declared.Parsed.{Parsed}
-use Rattle.deframer.specs.declared.Parsed.the-variants.{Good, Refused}
+use Rattle.fixed_header.specs.Header.{headerError}
+use Rattle.fixed_header.specs.declared.FrameType.{FrameType}
+use Rattle.fixed_header.specs.declared.FrameType.the-variants.{Unary, Init, Data, Feedback, Close}
+use Rattle.fixed_header.specs.declared.Parsed.{Parsed}
+use Rattle.fixed_header.specs.declared.Parsed.the-variants.{Good, Refused}
 use Rattle.bekurapi.specs.Answers.{ParsedAs}
 
 -- what C has after a call of `trpc_header_parse`: the number returned, and what is in the four that were lent
-pub record HeaderParsed : Type 0 where
+pub record CParsed : Type 0 where
   pub code : ℕ
   pub frame-type : ℕ
   pub total : ℕ
@@ -23,11 +23,11 @@ pub record HeaderParsed : Type 0 where
 -- ---- the `ensures` of each function, of what a call of it gave
 
 -- `trpc_header_check` only returns a number
-abbrev pub Checks : (bytes : List ℕ) (code : ℕ) → Type 0
-Checks bytes code = code ≡ headerError bytes
+abbrev pub CChecks : (bytes : List ℕ) (code : ℕ) → Type 0
+CChecks bytes code = code ≡ headerError bytes
 
-abbrev pub Parses : (bytes : List ℕ) → HeaderParsed → Type 0
-Parses bytes x = ParsedAs bytes (x .code) (x .frame-type) (x .total) (x .header-size) (x .id)
+abbrev pub CParses : (bytes : List ℕ) → CParsed → Type 0
+CParses bytes x = ParsedAs bytes (x .code) (x .frame-type) (x .total) (x .header-size) (x .id)
 
 -- ---- what the numbers say
 
@@ -36,7 +36,7 @@ abbrev pub typeFrom : ℕ → FrameType
 typeFrom n = cond (eqb n 0) Unary (cond (eqb n 1) Init (cond (eqb n 2) Data (cond (eqb n 3) Feedback Close)))
 
 -- the error code, or what the header says
-abbrev pub headerFrom : HeaderParsed → Parsed
+abbrev pub headerFrom : CParsed → Parsed
 headerFrom x =
     cond (eqb (x .code) 0)
     (Good (record { «frame_type» = typeFrom (x .frame-type); total = x .total; «header_size» = x .header-size; id = x .id }))

@@ -3,5 +3,7 @@ pub mod Header
 pub mod Readings
 pub mod Calls
 pub mod RoundTrip
--- and that each start and length that it gets lies within the frame
+-- that each start and length that it gets lies within the frame
 pub mod Within
+-- and what each function returns and leaves, by the grounds of document 01
+pub mod Entries

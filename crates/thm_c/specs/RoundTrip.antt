@@ -3,24 +3,24 @@ use Prim.Native.Nat.{ℕ, _<_, _^_}
 use mathlib.Core.Path.{_≡_}
 use mathlib.Core.List.{List, [], _∷_}
 use lib.ListN.{drop}
-use Rattle.message.specs.Records.{attachmentSizeOf}
+use Rattle.records.specs.Records.{attachmentSizeOf}
 use Rattle.message.specs.Frames.{lastBytes}
-use Rattle.message.specs.declared.Kind.{Kind}
+use Rattle.schema.specs.declared.Kind.{Kind}
 use Rattle.writer.specs.Writing.{messageOf}
 use Rattle.bekurapi.specs.Kinds.{WrittenAs}
 use Rattle.bekurapi.specs.Numbers.{recordFrom}
-use Rattle.thm_round_trip.specs.Meaning.{allOf, meaning}
-use Rattle.thm_c.specs.Readings.{Read, partAt}
+use Rattle.message.specs.Meaning.{allOf, meaning}
+use Rattle.thm_c.specs.Readings.{CRead, partAt}
 
 -- what C has after a call of a writer
-pub record Written : Type 0 where
+pub record CWritten : Type 0 where
   pub code : ℕ
   pub out : List ℕ
   pub size : ℕ
 
 -- the `ensures` of the writer of a kind, of what a call of it gave
-abbrev pub Writes : Kind → (numbers source rows body out : List ℕ) → Written → Type 0
-Writes kind numbers source rows body out w = WrittenAs kind numbers source rows body out (w .code) (w .size) (w .out)
+abbrev pub CWrites : Kind → (numbers source rows body out : List ℕ) → CWritten → Type 0
+CWrites kind numbers source rows body out w = WrittenAs kind numbers source rows body out (w .code) (w .size) (w .out)
 
 -- numbers that a uint32_t holds
 abbrev pub Words : List ℕ → Type 0
@@ -28,8 +28,8 @@ Words [] = Unit {0}
 Words (n ∷ l) = (n < 2 ^ 32) × Words l
 
 -- The numbers x that the reader gave of the frame say the record of the writer's numbers over `source` and `rows`, with that body.
-pub record CReadsBack (kind : Kind) (numbers source rows body frame : List ℕ) (x : Read) : Type 0 where
-  pub accepted : x .code ≡ 0
+pub record CReadsBack (kind : Kind) (numbers source rows body frame : List ℕ) (x : CRead) : Type 0 where
+  pub code-zero : x .code ≡ 0
   -- kind, id, numbers, present marks, the length and the bytes of each byte field, and the rows in order with those of their keys and
   -- values
   pub same-record : meaning (recordFrom kind (x .numbers)) frame (x .rows) ≡ meaning (recordFrom kind numbers) source rows

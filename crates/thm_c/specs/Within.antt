@@ -1,8 +1,8 @@
 -- What the numbers say that a reader hands out: the record, its rows, and the parts of the frame as starts and lengths
 use Prim.Native.Nat.{ℕ}
 use mathlib.Core.List.{List}
-use Rattle.message.specs.Records.{spanAt}
-use Rattle.message.specs.declared.Kind.{Kind}
+use Rattle.records.specs.Records.{spanAt}
+use Rattle.schema.specs.declared.Kind.{Kind}
 use Rattle.message.specs.declared.Answer.the-variants as answers
 use Rattle.message.specs.declared.Located.{Located}
 use Rattle.bekurapi.specs.Numbers.{recordFrom}

@@ -4,9 +4,9 @@ use mathlib.Core.List.{List, [], _∷_, _++_}
 use lib.IntN.{ℤ, pos}
 use lib.ListN.{length, replicate}
 use Rattle.message.specs.Frames.{Reading}
-use Rattle.message.specs.declared.Span.{Span}
-use Rattle.message.specs.declared.Record.{Record}
-use Rattle.message.specs.declared.Record.the-variants.{Request, Response, Feedback}
+use Rattle.records.specs.declared.Span.{Span}
+use Rattle.records.specs.declared.Record.{Record}
+use Rattle.records.specs.declared.Record.the-variants.{Request, Response, Feedback}
 use Rattle.message.specs.declared.Answer.the-variants.{Read, Refused}
 use Rattle.queue.specs.declared.Job.{Job}
 
@@ -87,6 +87,9 @@ plain r header = whole r header [] [] []
 abbrev pub refused : ℕ → Reading
 refused number = record { answer = Refused number; header = []; body = []; attachment = []; rows = replicate 256 0 }
 
--- ---- a job at arrival 0
-abbrev pub job : (request timeout : ℕ) → Job
-job request timeout = record { connection = 1; request = request; timeout = timeout; zero = 0; arrival = 0 }
+-- ---- a job, and one at arrival 0
+abbrev pub arriving : (arrival request timeout : ℕ) → Job
+arriving arrival request timeout = record { connection = 1; request = request; timeout = timeout; zero = 0; arrival = arrival }
+
+abbrev pub atZero : (request timeout : ℕ) → Job
+atZero request timeout = arriving 0 request timeout

@@ -3,13 +3,13 @@ use Prim.Native.Nat.{ℕ, zero, suc}
 use mathlib.Core.Path.{_≡_}
 use mathlib.Core.List.{List, [], _∷_}
 use lib.ListN.{length, replicate}
-use Rattle.deframer.specs.Header.{headerError, parsed}
+use Rattle.fixed_header.specs.Header.{headerError, parsed}
 use Rattle.deframer.specs.Stream.{uncut}
-use Rattle.deframer.specs.declared.FixedHeader.{FixedHeader}
-use Rattle.deframer.specs.declared.Parsed.the-variants.{Good}
+use Rattle.fixed_header.specs.declared.FixedHeader.{FixedHeader}
+use Rattle.fixed_header.specs.declared.Parsed.the-variants.{Good}
 use Rattle.deframer.specs.declared.End.{End}
 use Rattle.message.specs.Frames.{Reading, readFrame}
-use Rattle.message.specs.declared.Kind.{Kind}
+use Rattle.schema.specs.declared.Kind.{Kind}
 use Rattle.queue.specs.declared.Job.{Job}
 use Rattle.queue.specs.declared.Queue.{Queue}
 use Rattle.queue.specs.Calls.{emptyQueue, added, taken}

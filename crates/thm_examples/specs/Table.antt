@@ -5,13 +5,13 @@ use mathlib.Core.Bool.{true, false}
 use mathlib.Core.List.{List, [], _∷_, _++_}
 use lib.IntN.{ℤ, pos, negsuc}
 use lib.ListN.{replicate}
-use Rattle.deframer.specs.declared.FrameType.the-variants as types
+use Rattle.fixed_header.specs.declared.FrameType.the-variants as types
 use Rattle.deframer.specs.declared.End.the-variants as end
-use Rattle.message.specs.declared.Kind.the-variants as kinds
-use Rattle.message.specs.declared.Record.the-variants.{Init}
+use Rattle.schema.specs.declared.Kind.the-variants as kinds
+use Rattle.records.specs.declared.Record.the-variants.{Init}
 use Rattle.thm_examples.specs.Rows.{Row, stream, judged, says, reads, takes}
-use Rattle.thm_examples.specs.Bytes.{fixedHeader, small, unary, streamed, unaryFrame, streamFrame}
-use Rattle.thm_examples.specs.Bytes.{none, request, response, feedback, whole, plain, refused, job}
+use Rattle.thm_examples.specs.Bytes.{fixedHeader, small, unary, streamed, unaryFrame, streamFrame, none, request, response}
+use Rattle.thm_examples.specs.Bytes.{feedback, whole, plain, refused, arriving, atZero}
 
 -- a frame that is only a header message
 abbrev pub asRequest : (header : List ℕ) → (timeout : ℕ) → Row
@@ -59,7 +59,7 @@ table =
     ∷ asRequest (0x7B ∷ 0x7C ∷ []) 0
     ∷ refusedRequest (0x7B ∷ 0x84 ∷ 0x01 ∷ []) 11
     -- "jobs at arrival 0 with timeouts 0; 4,000,000,000; 600,000 are taken as 600,000; 4,000,000,000; 0"
-    ∷ takes (job 1 0 ∷ job 2 4_000_000_000 ∷ job 3 600_000 ∷ []) (job 3 600_000 ∷ job 2 4_000_000_000 ∷ job 1 0 ∷ [])
+    ∷ takes (atZero 1 0 ∷ atZero 2 4_000_000_000 ∷ atZero 3 600_000 ∷ []) (atZero 3 600_000 ∷ atZero 2 4_000_000_000 ∷ atZero 1 0 ∷ [])
     ∷ []
 
 -- a map entry a = 1, one of key b only, and a = 2
@@ -78,6 +78,8 @@ abbrev pub further : List Row
 further =
     -- "stream, header size 1: 7"
     judged (fixedHeader 0x09 0x30 1 1 (small 20) 1) 7
+    -- "Due time is arrival plus timeout": 100 and 5 are later than 0 and 20
+    ∷ takes (arriving 100 1 5 ∷ arriving 0 2 20 ∷ []) (arriving 0 2 20 ∷ arriving 100 1 5 ∷ [])
     -- "response 58 05: attachment 0"
     ∷ asResponse (0x58 ∷ 0x05 ∷ []) (pos 0)
     -- "nine FF then 02 as a varint: 10"

@@ -2,6 +2,7 @@
 pub mod Queue
 pub mod Promise
 pub mod Same
+pub mod Exactly
 pub mod Contracts
 pub mod Examples
 -- Laws under it.

@@ -16,8 +16,7 @@ use Rattle.refusals.specs.Grounds.{numbered, Exactly}
 use Rattle.refusals.proofs.Tests.{Told, not-found}
 use Rattle.thm_refusals.specs.Queue.{Invalid}
 use Rattle.thm_refusals.proofs.Queue.{invalid-queue}
-use Rattle.thm_queue.specs.History as history
-use Rattle.thm_queue.specs.History.{Event, waits, startedWith}
+use Rattle.thm_queue.specs.History.{Event, queueEmptied, waits, startedWith}
 use Rattle.thm_queue.specs.Calls.{Call, init, add, take, cancel, Seen, Ensured, InPlace, eventOf, event}
 use Rattle.thm_queue.specs.Promise.{DueFirst, Named, addGrounds, takeGrounds, cancelGrounds, Removes}
 use Rattle.thm_queue.specs.Promise.{Answers, Promised, Promise, Usable}
@@ -109,8 +108,8 @@ from-init q past s ss e called =
     emptied : s .queue ≡ emptyQueue
     emptied = subst (λ (c : Call). Ensured q c s) e (called .0)
 
-    next : Next past history.emptied (s .queue)
-    next = subst (Next past history.emptied) (sym emptied) (init-next past)
+    next : Next past queueEmptied (s .queue)
+    next = subst (Next past queueEmptied) (sym emptied) (init-next past)
 
     one : Step past s
     one =

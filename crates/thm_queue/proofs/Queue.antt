@@ -28,14 +28,14 @@ use mathlib.Core.Logic.{inl, inr}
 use mathlib.Core.List.{List, [], _∷_, _++_, append-nil, map}
 use native.Mathlib.Omega.{arith}
 use lib.Seq.{append-snoc}
+use Rattle.laws.proofs.Booleans.{clash}
 use Rattle.queue.specs.declared.Job.{Job}
 use Rattle.queue.specs.declared.Queue.{Queue}
 use Rattle.queue.specs.Waiting.{zeroJob, waiting}
 use Rattle.queue.specs.Calls.{newJob, emptyQueue, added, taken, cancelled}
 use Rattle.refusals.specs.Grounds.{Ground, numbered, Every, First, refuses, Exactly}
 use Rattle.thm_queue.specs.Due.{DueBefore}
-use Rattle.thm_queue.specs.History as history
-use Rattle.thm_queue.specs.History.{Event, waits, startedWith}
+use Rattle.thm_queue.specs.History.{Event, jobAccepted, jobTaken, jobCancelled, callRefused, waits, startedWith}
 use Rattle.thm_queue.specs.Calls.{Call, init, add, take, cancel, Seen, Ensured, InPlace, did, eventOf, event, reported, callOf}
 use Rattle.thm_queue.specs.Promise.{addGrounds, takeGrounds, cancelGrounds, Answers, Promised, Promise, Usable, QueuePromise}
 use Rattle.thm_queue.proofs.Steps.{did-refuse}
@@ -77,10 +77,10 @@ sooner-first past before s after p e z =
 -- ---- 24 is never returned
 not-given :
     (gs : List Ground) (n error : ℕ) (e : Event) → Exactly (numbered gs) error → (First gs n → ⊥)
-    → (e ≡ history.refused n → ⊥) → did error e ≡ history.refused n → ⊥
+    → (e ≡ callRefused n → ⊥) → did error e ≡ callRefused n → ⊥
 not-given gs n zero e x none other d = other d
 not-given gs n (suc m) e x none other d =
-    let refused : history.refused (suc m) ≡ history.refused n = sym (did-refuse (suc m) e (omega arith)) ∙ d in
+    let refused : callRefused (suc m) ≡ callRefused n = sym (did-refuse (suc m) e (omega arith)) ∙ d in
     let same : suc m ≡ n = cc in
     none (x .given n .0 (ap refuses same))
 
@@ -89,9 +89,9 @@ not-only : (number : ℕ) {P : Type 0} → (24 ≡ number → ⊥) → First (re
 not-only number n (inl f) = n (f .1)
 not-only number n (inr f) = f .1
 
-no-24 : (w : List Job) (c : Call) (job : Job) (error : ℕ) → Answers w c job error → eventOf c job error ≡ history.refused 24 → ⊥
-no-24 w init job error a e = let z : _≡_ {A = ℕ} 0 1 = cc in absurd (omega arith)
-no-24 w (add c r t b) job error a e = not-given (addGrounds w j) 24 error (history.accepted j) a by other e
+no-24 : (w : List Job) (c : Call) (job : Job) (error : ℕ) → Answers w c job error → eventOf c job error ≡ callRefused 24 → ⊥
+no-24 w init job error a e = clash cc
+no-24 w (add c r t b) job error a e = not-given (addGrounds w j) 24 error (jobAccepted j) a by (λ d. clash cc) e
   where
     j : Job
     j = newJob c r t b
@@ -101,21 +101,12 @@ no-24 w (add c r t b) job error a e = not-given (addGrounds w j) 24 error (histo
     by (inr (_, inl f)) = omega (arith, f .1)
     by (inr (_, inr (_, inl f))) = omega (arith, f .1)
     by (inr (_, inr (_, inr f))) = f .1
-
-    other : history.accepted j ≡ history.refused 24 → ⊥
-    other d = let z : _≡_ {A = ℕ} 0 1 = cc in absurd (omega arith)
 no-24 w take job error a e =
-    not-given (takeGrounds w) 24 error (history.taken job) (a .number) (not-only 23 (λ n. omega arith)) other e
-  where
-    other : history.taken job ≡ history.refused 24 → ⊥
-    other d = let z : _≡_ {A = ℕ} 0 1 = cc in absurd (omega arith)
+    not-given (takeGrounds w) 24 error (jobTaken job) (a .number) (not-only 23 (λ n. omega arith)) (λ d. clash cc) e
 no-24 w (cancel c r) job error a e =
-    not-given (cancelGrounds w c r) 24 error (history.cancelled job) (a .number) (not-only 26 (λ n. omega arith)) other e
-  where
-    other : history.cancelled job ≡ history.refused 24 → ⊥
-    other d = let z : _≡_ {A = ℕ} 0 1 = cc in absurd (omega arith)
+    not-given (cancelGrounds w c r) 24 error (jobCancelled job) (a .number) (not-only 26 (λ n. omega arith)) (λ d. clash cc) e
 
-pub never-invalid : (past : List Event) (ss : List Seen) → Promise past ss → Every (λ e. e ≡ history.refused 24 → ⊥) (map event ss)
+pub never-invalid : (past : List Event) (ss : List Seen) → Promise past ss → Every (λ e. e ≡ callRefused 24 → ⊥) (map event ss)
 never-invalid past [] p = tt
 never-invalid past (s ∷ ss) p =
     (no-24 (waits past) (s .call) (s .job) (s .error) (p .0 .answers), never-invalid (past ++ (event s ∷ [])) ss (p .1))

@@ -14,14 +14,14 @@ use native.Mathlib.Omega.{arith}
 use native.Mathlib.Decide.{decLt, ℕ-discrete}
 use lib.ListN.{length, List·getD-append, length-append}
 use lib.Seq.{getD-append-seam}
+use Rattle.laws.proofs.Booleans.{clash}
 use Rattle.queue.specs.declared.Job.{Job}
 use Rattle.queue.specs.Waiting.{zeroJob, jobAt}
 use Rattle.queue.specs.Calls.{newJob}
 use Rattle.refusals.specs.Grounds.{Ground, numbered, Exactly}
 use Rattle.thm_refusals.specs.Queue.{HasPair}
-use Rattle.thm_queue.specs.Due.{dueTime, DueBefore, EquallyDue}
-use Rattle.thm_queue.specs.History as history
-use Rattle.thm_queue.specs.History.{Event, waits}
+use Rattle.thm_queue.specs.Due.{dueAt, DueBefore, EquallyDue}
+use Rattle.thm_queue.specs.History.{Event, jobAccepted, waits}
 use Rattle.thm_queue.specs.Calls.{Call, init, add, take, cancel, Seen, did, eventOf, event, number, reportOf, reported, callOf}
 use Rattle.thm_queue.specs.Promise.{DueFirst, Named, addGrounds, Removes, Answers, Promise}
 use Rattle.thm_queue.proofs.Steps.{every-at}
@@ -35,10 +35,10 @@ same-number gs (suc n) b x y = sym (y .refused (suc n) (x .given (suc n) .0 refl
 -- of two jobs one is due before the other, or they are equally due
 due-apart : (j k : Job) → DueBefore j k ⊎ (EquallyDue j k ⊎ DueBefore k j)
 due-apart j k =
-    by (ℕ-discrete (j .timeout) 0) (ℕ-discrete (k .timeout) 0) (decLt (dueTime j) (dueTime k)) (decLt (dueTime k) (dueTime j))
+    by (ℕ-discrete (j .timeout) 0) (ℕ-discrete (k .timeout) 0) (decLt (dueAt j) (dueAt k)) (decLt (dueAt k) (dueAt j))
   where
     by :
-        Dec (j .timeout ≡ 0) → Dec (k .timeout ≡ 0) → Dec (dueTime j < dueTime k) → Dec (dueTime k < dueTime j)
+        Dec (j .timeout ≡ 0) → Dec (k .timeout ≡ 0) → Dec (dueAt j < dueAt k) → Dec (dueAt k < dueAt j)
         → DueBefore j k ⊎ (EquallyDue j k ⊎ DueBefore k j)
     by (yes a) (yes b) c d = inr (inl (inl (a, b)))
     by (yes a) (no b) c d = inr (inr (omega arith, inl a))
@@ -140,7 +140,7 @@ same w init job₁ job₂ error₁ error₂ x y = record { same-report = refl; s
 same w (add c r t a) job₁ job₂ error₁ error₂ x y =
     let j = newJob c r t a in
     let e = same-number (addGrounds w j) error₁ error₂ x y in
-    record { same-report = ap number e; same-event = ap (λ (n : ℕ). did n (history.accepted j)) e }
+    record { same-report = ap number e; same-event = ap (λ (n : ℕ). did n (jobAccepted j)) e }
 same w take job₁ job₂ error₁ error₂ x y =
     let e = removed-same _ (DueFirst w) (one-first w) job₁ job₂ error₁ error₂ x y in
     record { same-report = rw (e .0, e .1); same-event = rw (e .0, e .1) }
@@ -153,8 +153,8 @@ pub same-answers :
     (past : List Event) (ss ts : List Seen) → map callOf ss ≡ map callOf ts
     → Promise past ss → Promise past ts → map reported ss ≡ map reported ts
 same-answers past [] [] e p r = refl
-same-answers past [] (t ∷ ts) e p r = let z : _≡_ {A = ℕ} 0 1 = cc in absurd (omega arith)
-same-answers past (s ∷ ss) [] e p r = let z : _≡_ {A = ℕ} 0 1 = cc in absurd (omega arith)
+same-answers past [] (t ∷ ts) e p r = clash cc
+same-answers past (s ∷ ss) [] e p r = clash cc
 same-answers past (s ∷ ss) (t ∷ ts) e p r =
     let call : s .call ≡ t .call = cc in
     let calls : map callOf ss ≡ map callOf ts = cc in

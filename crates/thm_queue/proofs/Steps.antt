@@ -6,10 +6,11 @@ use mathlib.Core.Logic.{_⊎_, inl, inr}
 use mathlib.Core.Bool.{Bool, true, false, true≢false}
 use mathlib.Core.List.{List, [], _∷_, _++_}
 use native.Mathlib.Omega.{arith}
-use borrow.Author.Tests.{eq-eqb, ne-eqb, ltb-true, eqb-true}
-use lib.Dec.{eqb}
+use borrow.Author.Tests.{eq-eqb, ne-eqb, ltb-true}
 use lib.ListN.{length, take, drop}
 use lib.Seq.{split-at, getD-take, length-take-le}
+use Rattle.laws.proofs.Booleans.{neither}
+use Rattle.laws.proofs.Lists.{empty}
 use Rattle.queue.specs.declared.Job.{Job}
 use Rattle.queue.specs.declared.Queue.{Queue}
 use Rattle.queue.specs.declared.Added.{Added}
@@ -18,11 +19,10 @@ use Rattle.queue.specs.Due.{due, earlier}
 use Rattle.queue.specs.Waiting.{capacity, latestArrival, zeroJob, waiting, jobAt, any, place, hasPair, samePair, pairTwice}
 use Rattle.queue.specs.Waiting.{invalid, earliest, with, without, filled, closedUp}
 use Rattle.queue.specs.Calls.{emptyQueue, addError, removeError, removedAt, added, taken, cancelled}
-use Rattle.queue.proofs.Tests.{or-false, both}
-use Rattle.queue.proofs.Search.{any-place, any-none, place-holds}
+use Rattle.queue.proofs.Search.{any-place, any-none, none-at, place-holds}
 use Rattle.queue.proofs.Deadlines.{earlier-self}
 use Rattle.queue.proofs.Leader.{Leads, earliest-leads}
-use Rattle.queue.proofs.Valid.{not-invalid, pairs-apart}
+use Rattle.queue.proofs.Valid.{not-invalid, pair-is, pairs-apart}
 use Rattle.queue.proofs.Changes.{Sound, sound-length, waiting-filled, sound-filled, waiting-closed, sound-closed}
 use Rattle.refusals.specs.Grounds.{Ground, numbered, Every, First, None, Exactly}
 use Rattle.refusals.proofs.Tests.{unlike, reworded, equal, below, not-found, found}
@@ -30,12 +30,11 @@ use Rattle.refusals.proofs.Order.{Outcome, end, when, unless, part-of, exactly,
 use Rattle.thm_refusals.specs.Queue.{HasPair}
 use Rattle.thm_refusals.proofs.Queue.{pair-waits}
 use Rattle.thm_queue.specs.Due.{DueBefore, EquallyDue}
-use Rattle.thm_queue.specs.History as history
-use Rattle.thm_queue.specs.History.{Event, waits}
+use Rattle.thm_queue.specs.History.{Event, jobAccepted, jobTaken, jobCancelled, callRefused, queueEmptied, waits}
 use Rattle.thm_queue.specs.Calls.{did}
 use Rattle.thm_queue.specs.Promise.{DueFirst, Named, addGrounds, takeGrounds, cancelGrounds, Removes}
 use Rattle.thm_queue.proofs.Due.{not-before, equally-due}
-use Rattle.thm_queue.proofs.History.{after-accepted, after-refused, after-emptied, after-taken, after-cancelled}
+use Rattle.thm_queue.proofs.History.{after-accepted, after-refused, after-emptied, after-removed}
 
 -- ---- lists
 pub every : (P : Job → Type 0) (w : List Job) → ((k : ℕ) → k < length w → P (jobAt w k)) → Every P w
@@ -74,19 +73,17 @@ due-first w h =
         let tie : due (jobAt w k) ≡ due j = sym (ap due same) ∙ equally-due (jobAt (take b w) k) j e in
         true≢false (sym (l .first k inside) ∙ ap (earlier (due j)) tie ∙ earlier-self (due j))
 
-pair-is : (c r : ℕ) (j : Job) → hasPair c r j ≡ true → HasPair c r j
-pair-is c r j e =
-    let s = both (eqb (j .connection) c) (eqb (j .request) r) e in
-    (eqb-true (j .connection) c (s .0), eqb-true (j .request) r (s .1))
+refuted : (b : Bool) → (b ≡ true → ⊥) → b ≡ false
+refuted true n = absurd (n refl)
+refuted false n = refl
 
 module _ (c r : ℕ) where
   -- where no pair waits twice, no other job has the pair
   none-after : (j : Job) (js : List Job) → pairTwice (j ∷ js) ≡ false → hasPair c r j ≡ true → any (hasPair c r) js ≡ false
-  none-after j js apart e = any-none (hasPair c r) js (λ k h. by k h (hasPair c r (jobAt js k)) refl)
-    where
-      by : (k : ℕ) → k < length js → (b : Bool) → hasPair c r (jobAt js k) ≡ b → b ≡ false
-      by k h false f = refl
-      by k h true f = absurd (omega (arith, pairs-apart (j ∷ js) c r 0 (suc k) apart (omega arith) (omega arith) e f))
+  none-after j js apart e =
+      any-none (hasPair c r) js
+      (λ k h. refuted (hasPair c r (jobAt js k))
+      (λ f. omega (arith, pairs-apart (j ∷ js) c r 0 (suc k) apart (omega arith) (omega arith) e f)))
 
   none-other :
       (w : List Job) (at : ℕ) → pairTwice w ≡ false → at < length w → hasPair c r (jobAt w at) ≡ true
@@ -94,19 +91,16 @@ module _ (c r : ℕ) where
   none-other [] at apart h e = absurd (omega arith)
   none-other (j ∷ js) zero apart h e = none-after j js apart e
   none-other (j ∷ js) (suc at) apart h e =
-      rw (by (hasPair c r j) refl) (none-other js at (or-false (any (samePair j) js) (pairTwice js) apart .1) (omega arith) e)
-    where
-      by : (b : Bool) → hasPair c r j ≡ b → b ≡ false
-      by false f = refl
-      by true f = absurd (omega (arith, pairs-apart (j ∷ js) c r 0 (suc at) apart (omega arith) (omega arith) f e))
+      rw
+      (refuted (hasPair c r j)
+      (λ f. omega (arith, pairs-apart (j ∷ js) c r 0 (suc at) apart (omega arith) (omega arith) f e)))
+      (none-other js at (neither (any (samePair j) js) (pairTwice js) apart .1) (omega arith) e)
 
   every-other : (w : List Job) → any (hasPair c r) w ≡ false → Every (λ k. HasPair c r k → ⊥) w
-  every-other [] e = tt
-  every-other (j ∷ js) e =
-      let s = or-false (hasPair c r j) (any (hasPair c r) js) e in (
-        λ (p : HasPair c r j). true≢false (sym (rw (eq-eqb (j .connection) c (p .0), eq-eqb (j .request) r (p .1)) refl) ∙ s .0),
-        every-other js (s .1),
-      )
+  every-other w e =
+      every (λ k. HasPair c r k → ⊥) w
+      (λ k h p. let j = jobAt w k in
+      true≢false (sym (rw (eq-eqb (j .connection) c (p .0), eq-eqb (j .request) r (p .1)) refl) ∙ none-at (hasPair c r) w k e h))
 
   named : (w : List Job) → pairTwice w ≡ false → any (hasPair c r) w ≡ true → Named w c r (jobAt w (place (hasPair c r) w))
   named w apart e =
@@ -133,7 +127,7 @@ pub record Next (past : List Event) (e : Event) (q : Queue) : Type 0 where
   pub waiting-is : waiting q ≡ waits (past ++ (e ∷ []))
 
 -- a call that is refused changes nothing
-pub did-refuse : (n : ℕ) (e : Event) → 0 < n → did n e ≡ history.refused n
+pub did-refuse : (n : ℕ) (e : Event) → 0 < n → did n e ≡ callRefused n
 did-refuse n e h = rw (ne-eqb n 0 (omega arith))
 
 module _ (q : Queue) (s : Sound q) (past : List Event) (is : waiting q ≡ waits past) where
@@ -168,7 +162,7 @@ module _ (q : Queue) (s : Sound q) (past : List Event) (is : waiting q ≡ waits
         exactly (numbered grounds) (added q j .error) (λ none. refl) (first-says grounds add-numbered)
         (part-of (λ (a : Added). a .error) add-outcome)
 
-    accepted-next : None grounds → Next past (history.accepted j) (filled q j)
+    accepted-next : None grounds → Next past (jobAccepted j) (filled q j)
     accepted-next none =
         let not-full : q .count ≡ capacity → ⊥ = λ e. none .1 .1 .0 (long ∙ e) in
         let room : q .count < capacity = omega (arith, s .checked .few) in
@@ -179,15 +173,15 @@ module _ (q : Queue) (s : Sound q) (past : List Event) (is : waiting q ≡ waits
           waiting-is = waiting-filled q j s room ∙ ap (λ (w : List Job). with w j) is ∙ sym (after-accepted past j);
         }
 
-    pub add-next : Next past (did (added q j .error) (history.accepted j)) (added q j .queue)
+    pub add-next : Next past (did (added q j .error) (jobAccepted j)) (added q j .queue)
     add-next = by (add-outcome .is)
       where
         by :
             (None grounds × (added q j ≡ record { queue = filled q j; error = 0 }))
             ⊎ ((n : ℕ) × First grounds n × (added q j ≡ addError q n))
-            → Next past (did (added q j .error) (history.accepted j)) (added q j .queue)
+            → Next past (did (added q j .error) (jobAccepted j)) (added q j .queue)
         by (inl h) = rw (h .1) (accepted-next (h .0))
-        by (inr h) = rw (h .2) (refused-next (h .0) (history.accepted j) (first-number grounds add-numbered (h .0) (h .1)))
+        by (inr h) = rw (h .2) (refused-next (h .0) (jobAccepted j) (first-number grounds add-numbered (h .0) (h .1)))
 
   -- ---- take and cancel, by the place of the job that is removed
   module _
@@ -243,15 +237,11 @@ module _ (q : Queue) (s : Sound q) (past : List Event) (is : waiting q ≡ waits
   take-numbered : Numbered takes
   take-numbered = search arith depth 20
 
-  none-waits : (w : List Job) → length w ≡ 0 → w ≡ []
-  none-waits [] e = refl
-  none-waits (j ∷ js) e = absurd (omega arith)
-
   take-outcome : Outcome takes (removeError q) (removedAt q (earliest (waiting q))) (taken q)
   unfolding taken
   take-outcome =
       rw ok
-      (when (reworded (λ e. none-waits (waiting q) (long ∙ e)) (λ e. sym long ∙ ap length e) (equal (q .count) 0))
+      (when (reworded (λ e. empty (waiting q) (omega (arith, long, e))) (λ e. sym long ∙ ap length e) (equal (q .count) 0))
       end)
 
   some-wait : None takes → 0 < length (waiting q)
@@ -266,11 +256,11 @@ module _ (q : Queue) (s : Sound q) (past : List Event) (is : waiting q ≡ waits
       removes takes take-numbered (earliest (waiting q)) (taken q) take-outcome (DueFirst (waiting q))
       (λ none. due-first (waiting q) (some-wait none))
 
-  pub take-next : Next past (did (taken q .error) (history.taken (taken q .job))) (taken q .queue)
+  pub take-next : Next past (did (taken q .error) (jobTaken (taken q .job))) (taken q .queue)
   take-next =
-      removed-next takes take-numbered (earliest (waiting q)) (taken q) take-outcome history.taken
+      removed-next takes take-numbered (earliest (waiting q)) (taken q) take-outcome jobTaken
       (λ none. omega (arith, long, earliest-leads (waiting q) (some-wait none) .inside))
-      (after-taken past (earliest (waiting q)) apart)
+      (after-removed jobTaken (λ j k. refl) (λ k. refl) past (earliest (waiting q)) apart)
 
   -- ---- cancel
   module _ (c r : ℕ) where
@@ -296,14 +286,14 @@ module _ (q : Queue) (s : Sound q) (past : List Event) (is : waiting q ≡ waits
         removes cancels cancel-numbered at-pair (cancelled q c r) cancel-outcome (Named (waiting q) c r)
         (λ none. named c r (waiting q) (s .checked .apart) (it-waits none))
 
-    pub cancel-next : Next past (did (cancelled q c r .error) (history.cancelled (cancelled q c r .job))) (cancelled q c r .queue)
+    pub cancel-next : Next past (did (cancelled q c r .error) (jobCancelled (cancelled q c r .job))) (cancelled q c r .queue)
     cancel-next =
-        removed-next cancels cancel-numbered at-pair (cancelled q c r) cancel-outcome history.cancelled
+        removed-next cancels cancel-numbered at-pair (cancelled q c r) cancel-outcome jobCancelled
         (λ none. omega (arith, long, ltb-true at-pair (length (waiting q)) (sym (any-place (hasPair c r) (waiting q)) ∙ it-waits none)))
-        (after-cancelled past at-pair apart)
+        (after-removed jobCancelled (λ j k. refl) (λ k. refl) past at-pair apart)
 
 -- ---- init, on any memory
-pub init-next : (past : List Event) → Next past history.emptied emptyQueue
+pub init-next : (past : List Event) → Next past queueEmptied emptyQueue
 init-next past =
     record {
       stays = record { checked = record { few = omega arith; apart = refl; early = refl }; places = refl };

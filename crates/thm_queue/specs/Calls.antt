@@ -8,8 +8,7 @@ use lib.Dec.{eqb}
 use Rattle.queue.specs.declared.Job.{Job}
 use Rattle.queue.specs.declared.Queue.{Queue}
 use Rattle.queue.specs.Calls.{newJob, emptyQueue, added, taken, cancelled}
-use Rattle.thm_queue.specs.History as history
-use Rattle.thm_queue.specs.History.{Event}
+use Rattle.thm_queue.specs.History.{Event, jobAccepted, jobTaken, jobCancelled, callRefused, queueEmptied}
 
 -- `trpc_queue_init`, `trpc_queue_add`, `trpc_queue_take`, `trpc_queue_cancel`, with their numbers
 pub data Call : Type 0 where
@@ -39,13 +38,13 @@ InPlace q (s ∷ ss) = Ensured q (s .call) s × InPlace (s .queue) ss
 
 -- ---- what a call did, by what the controller has of it: a number that is not 0 is a refusal
 abbrev pub did : (error : ℕ) → Event → Event
-did error e = cond (eqb error 0) e (history.refused error)
+did error e = cond (eqb error 0) e (callRefused error)
 
 abbrev pub eventOf : Call → Job → (error : ℕ) → Event
-eventOf init job error = history.emptied
-eventOf (add c r t a) job error = did error (history.accepted (newJob c r t a))
-eventOf take job error = did error (history.taken job)
-eventOf (cancel c r) job error = did error (history.cancelled job)
+eventOf init job error = queueEmptied
+eventOf (add c r t a) job error = did error (jobAccepted (newJob c r t a))
+eventOf take job error = did error (jobTaken job)
+eventOf (cancel c r) job error = did error (jobCancelled job)
 
 abbrev pub event : Seen → Event
 event s = eventOf (s .call) (s .job) (s .error)

@@ -8,19 +8,19 @@ use Rattle.queue.specs.Waiting.{samePair}
 
 -- a job was accepted, taken or cancelled; a call was refused with a number; or the queue was made one in which nothing waits
 pub data Event : Type 0 where
-  accepted : Job → Event
-  taken : Job → Event
-  cancelled : Job → Event
-  refused : (number : ℕ) → Event
-  emptied : Event
+  jobAccepted : Job → Event
+  jobTaken : Job → Event
+  jobCancelled : Job → Event
+  callRefused : (number : ℕ) → Event
+  queueEmptied : Event
 
 -- whether an event removes a job, which is known by its pair
 abbrev pub removes : Job → Event → Bool
-removes j (accepted k) = false
-removes j (taken k) = samePair k j
-removes j (cancelled k) = samePair k j
-removes j (refused n) = false
-removes j emptied = true
+removes j (jobAccepted k) = false
+removes j (jobTaken k) = samePair k j
+removes j (jobCancelled k) = samePair k j
+removes j (callRefused n) = false
+removes j queueEmptied = true
 
 -- whether one of these events does
 abbrev pub removedIn : Job → List Event → Bool
@@ -30,12 +30,12 @@ removedIn j (e ∷ es) = removes j e || removedIn j es
 -- what waits: the jobs accepted and not removed since, in order of acceptance
 abbrev pub waits : List Event → List Job
 waits [] = []
-waits (accepted j ∷ es) = cond (removedIn j es) (waits es) (j ∷ waits es)
-waits (taken j ∷ es) = waits es
-waits (cancelled j ∷ es) = waits es
-waits (refused n ∷ es) = waits es
-waits (emptied ∷ es) = waits es
+waits (jobAccepted j ∷ es) = cond (removedIn j es) (waits es) (j ∷ waits es)
+waits (jobTaken j ∷ es) = waits es
+waits (jobCancelled j ∷ es) = waits es
+waits (callRefused n ∷ es) = waits es
+waits (queueEmptied ∷ es) = waits es
 
 -- the history of a queue in which these jobs wait: each was accepted, in this order
 abbrev pub startedWith : List Job → List Event
-startedWith js = map accepted js
+startedWith js = map jobAccepted js

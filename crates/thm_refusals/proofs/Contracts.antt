@@ -1,7 +1,7 @@
--- What `header-check-exactly` takes a call of `trpc_header_check` to ensure is the `ensures` of its contract: the two are the same by
--- computation, so neither can be changed without the other. The same is said of `deframe`, `finish` and `read` in `thm_stream`, of
--- `write` in `thm_round_trip`, of the field writers in FieldWriter, of `trpc_queue_add` and its kin in `thm_queue`, and of the other functions
--- for C in `thm_c`. Of `queue::add`, `take` and `cancel` it is not: Queue repeats the equations of their contracts.
+-- What `header-check-exactly` takes a call of `check_header` to ensure is the `ensures` of its contract: the two are the same by
+-- computation, so neither can be changed without the other. The same is said of `deframe`, `finish` and `read` in `thm_stream`, of `write`
+-- in `thm_round_trip`, of the field writers in FieldWriter, of `trpc_queue_add` and its kin in `thm_queue`, and of the other functions for
+-- C in `thm_c`. Of `queue::add`, `take` and `cancel` it is not: Queue repeats the equations of their contracts.
 -- Assumes nothing.
 use Prim.Native.Nat.{ℕ}
 use mathlib.Core.Path.{_≡_, refl}
@@ -16,8 +16,8 @@ use ghost.Atoms.{Atoms}
 use contract.Monad.{Fun, fact}
 use denote.Ref.{RefT, now}
 use denote.Triple.Clauses.{atExit}
-use Rattle.deframer.specs.Header.{headerError}
-use Rattle.deframer.proofs.trpc_header_check as check
+use Rattle.fixed_header.specs.Header.{headerError}
+use Rattle.fixed_header.proofs.check_header as check
 
 pub header-ensures : {M : Type 1} (𝓤 : URA M) (H : Heap 𝓤) (A : Atoms 𝓤) (mem : Memory → SProp 𝓤) (run : Routine → Fun 𝓤) (κ : Lft)
     (bytes : RefT (List ℕ)) (r : ℕ)

@@ -1,4 +1,5 @@
--- For a user: when `deframe` and `finish` give which number. `deframe-gives` and `finish-gives` are of any call, by its contract alone.
+-- For a user: when `deframe` and `finish` give which number. `deframe-gives` and `finish-gives` are of any call, by its contract only.
+--
 -- Promised, for any state, buffer and piece: 1, 2, a held refusal and, from `deframe`, 3 to 8, each exactly when its ground holds and none
 -- before it in the order does; the work where none holds; and the state, the count taken and the whole buffer afterwards, by either.
 -- Not promised: anything over several calls, which `thm_stream` says.
@@ -13,7 +14,7 @@ use native.Mathlib.Omega.{arith}
 use borrow.Author.Tests.{eqb-true, eqb-false, eq-eqb, ne-eqb, ltb-true, ltb-false, lt-leb}
 use lib.Dec.{eqb, ltb, leb}
 use lib.ListN.{length, take}
-use Rattle.deframer.specs.Header.{maxFrame, headerError, faultOf, totalOf}
+use Rattle.fixed_header.specs.Header.{maxFrame, headerError, faultOf, totalOf}
 use Rattle.deframer.specs.Deframe.{knownOf, stream, nextFrame, Out, moved, advance, unmoved, deframed, ended}
 use Rattle.deframer.specs.declared.Deframer.{Deframer}
 use Rattle.deframer.specs.declared.Step.{Step}
@@ -21,10 +22,10 @@ use Rattle.deframer.specs.declared.Progress.{Progress}
 use Rattle.deframer.specs.declared.Progress.the-variants.{Frame, NeedMore, Refused}
 use Rattle.deframer.specs.declared.End.{End}
 use Rattle.deframer.specs.declared.End.the-variants as end
-use Rattle.deframer.proofs.Codes.{first-sixteen, Code, fault-code}
+use Rattle.fixed_header.proofs.Codes.{first-sixteen, Code, fault-code}
 use Rattle.thm_stream.specs.Trace.{Deframes, Finishes}
 use Rattle.refusals.specs.Grounds.{ground, works, refuses, Exactly}
-use Rattle.refusals.proofs.Tests.{Finds, each, missing, reworded, equal, below, up-to, choose}
+use Rattle.refusals.proofs.Tests.{Finds, each, missing, reworded, equal, below, up-to, found-by-choice}
 use Rattle.refusals.proofs.Order.{Outcome, end, when, passed, stopped, under-met, under-unmet, of-error, exactly}
 use Rattle.thm_refusals.specs.Header.{faults}
 use Rattle.thm_refusals.specs.Deframer.{Known, streamFaults, progressSays, deframeRefusal, cut, deframeEntry, endSays, finishEntry}
@@ -37,8 +38,8 @@ module _ (state : Deframer) (buffer : List ℕ) where
   known : Finds (knownOf state buffer) (Known state buffer)
   unfolding knownOf
   known =
-      choose (equal (state .error) 0)
-      (λ z. choose (below (state .held) 16)
+      found-by-choice (equal (state .error) 0)
+      (λ z. found-by-choice (below (state .held) 16)
       (λ few. record { told = inl (few, z) })
       (λ many. reworded
       (λ (g : (headerError first ≡ 0) × (state .held < totalOf first)). inr (inl (omega arith, z, g .0, g .1)))
@@ -47,14 +48,16 @@ module _ (state : Deframer) (buffer : List ℕ) where
       (λ n. reworded
       (λ g. inr (inr (g .0, g .1 .0, g .1 .1 .0, g .1 .1 .1)))
       (judged n)
-      (each (equal (state .held) 16) (each (equal (headerError first) (state .error)) (each (up-to 3 (state .error)) (up-to (state .error) 8)))))
+      (each (equal (state .held) 16)
+      (each (equal (headerError first) (state .error)) (each (up-to 3 (state .error)) (up-to (state .error) 8)))))
     where
       more : state .error ≡ 0 → (state .held < 16 → ⊥) → Known state buffer → (headerError first ≡ 0) × (state .held < totalOf first)
       more z many (inl k) = absurd (many (k .0))
       more z many (inr (inl k)) = (k .2, k .3)
       more z many (inr (inr k)) = absurd (omega (arith, k .2))
 
-      judged : (state .error ≡ 0 → ⊥) → Known state buffer → (state .held ≡ 16) × ((headerError first ≡ state .error) × ((3 ≤ state .error) × (state .error ≤ 8)))
+      judged : (state .error ≡ 0 → ⊥) → Known state buffer
+          → (state .held ≡ 16) × ((headerError first ≡ state .error) × ((3 ≤ state .error) × (state .error ≤ 8)))
       judged n (inl k) = absurd (n (k .1))
       judged n (inr (inl k)) = absurd (n (k .1))
       judged n (inr (inr k)) = (k .0, (k .1, (k .2, k .3)))
@@ -95,7 +98,8 @@ module _ (state : Deframer) (buffer piece : List ℕ) where
   held-refusal : (state .error ≡ 0 → ⊥) → refusal (state .error) ≡ unmoved (state .error) state buffer
   held-refusal n = rw (ne-eqb (state .error) 0 n) (by (leb (state .error) 2))
     where
-      by : (b : Bool) → cond b (unmoved (state .error) state buffer) (unmoved (state .error) state buffer) ≡ unmoved (state .error) state buffer
+      by : (b : Bool) → cond b (unmoved (state .error) state buffer) (unmoved (state .error) state buffer)
+          ≡ unmoved (state .error) state buffer
       by true = refl
       by false = refl
 
@@ -111,14 +115,16 @@ module _ (state : Deframer) (buffer piece : List ℕ) where
           rw e (under-unmet (faults (take 16 s)) (λ l. omega (arith, ltb-true (length s) 16 e)))
       by false e =
           let long : 16 ≤ length s = ltb-false (length s) 16 e in
-          rw e (under-met (faults (take 16 s)) long (rw (first-sixteen s long) (on (faultOf (take 16 s)) (faults-outcome (take 16 s)) (fault-code (take 16 s)))))
+          rw e (under-met (faults (take 16 s)) long
+          (rw (first-sixteen s long) (on (faultOf (take 16 s)) (faults-outcome (take 16 s)) (fault-code (take 16 s)))))
         where
           three : (n : ℕ) → Code n → 0 < n → 3 ≤ n
           three n (inl c) p = absurd (omega arith)
           three n (inr c) p = c .0
 
           on : (n : ℕ) → Outcome (faults (take 16 s)) (λ n. n) 0 n → Code n
-              → Outcome (faults (take 16 s)) refusal (moved whole (state .held) buffer s) (moved (cond (eqb n 0) whole (Refused n)) (state .held) buffer s)
+              → Outcome (faults (take 16 s)) refusal (moved whole (state .held) buffer s)
+              (moved (cond (eqb n 0) whole (Refused n)) (state .held) buffer s)
           on n o c =
               of-error (faults (take 16 s)) (faults-numbered (take 16 s)) o
               (λ (none : n ≡ 0). rw (eq-eqb n 0 none))
@@ -129,7 +135,8 @@ module _ (state : Deframer) (buffer piece : List ℕ) where
   deframe-outcome = when (below (length buffer) maxFrame) (when (missing (known state buffer)) (by (eqb (state .error) 0) refl))
     where
       by : (b : Bool) → eqb (state .error) 0 ≡ b
-          → Outcome (ground (state .error) (state .error ≡ 0 → ⊥) ∷ streamFaults s) refusal work (cond (not b) (unmoved (state .error) state buffer) (advance (state .held) buffer s))
+          → Outcome (ground (state .error) (state .error ≡ 0 → ⊥) ∷ streamFaults s) refusal work
+          (cond (not b) (unmoved (state .error) state buffer) (advance (state .held) buffer s))
       by true e = passed (λ n. n (eqb-true (state .error) 0 e)) (advance-outcome (eqb-true (state .error) 0 e))
       by false e =
           let n : state .error ≡ 0 → ⊥ = eqb-false (state .error) 0 e in
@@ -146,14 +153,18 @@ module _ (state : Deframer) (buffer piece : List ℕ) where
   refusal-says : (n : ℕ) → progressSays (refusal n .step .progress) ≡ refuses n
   refusal-says n = on (leb n 2) (eqb (state .error) 0)
     where
-      on : (a b : Bool) → progressSays (cond a (unmoved n state buffer) (cond b (moved (Refused n) (state .held) buffer s) (unmoved n state buffer)) .step .progress) ≡ refuses n
+      on : (a b : Bool)
+          → progressSays (cond a (unmoved n state buffer) (cond b (moved (Refused n) (state .held) buffer s)
+          (unmoved n state buffer)) .step .progress)
+          ≡ refuses n
       on true b = refl
       on false true = refl
       on false false = refl
 
   pub deframe-exactly : Exactly (deframeEntry state buffer piece) (deframed state buffer piece)
   deframe-exactly =
-      exactly (deframeEntry state buffer piece) (deframed state buffer piece) (λ none. cut-works (cut s) refl) (λ n f. refusal-says n) deframe-outcome
+      exactly (deframeEntry state buffer piece) (deframed state buffer piece) (λ none. cut-works (cut s) refl) (λ n f. refusal-says n)
+      deframe-outcome
 
   -- of the function itself, by its contract
   pub deframe-gives : (o : Out) → Deframes state buffer piece o → Exactly (deframeEntry state buffer piece) o

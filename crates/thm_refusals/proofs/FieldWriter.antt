@@ -1,5 +1,9 @@
--- For a user: `write_varint` and `write_raw` give 27, `write_tag` and `write_bytes` give 11 and 27, exactly on their grounds and in this
--- order, and leave the output untouched; with no ground the bytes are written, and nothing else of the output changes.
+-- For a user: when the writers of a field give which number.
+--
+-- Promised, for any output, place and value: `write_varint` and `write_raw` give 27, `write_tag` and `write_bytes` give 11 and then 27,
+-- each exactly when its ground holds and none before it does. A refusal leaves the output untouched. With no ground the bytes are written,
+-- and nothing else of the output changes.
+-- Not promised: that what is written reads back, which `wire_write` says (proofs/ReadBack).
 -- Ruled out: a writer that gives 27 for a tag of field 0, one that refuses an output with exactly enough room, and one that stores what
 -- it refuses.
 -- Assumes nothing.

@@ -1,4 +1,5 @@
 -- For a user: which number the fields of a message are refused with (`message-decides`).
+--
 -- Promised, for any bytes: that of the first ground from left to right, at each place tag 10, 11, 13, value 10, 12, then 14 before an
 -- entry's inside, within skipped groups, map entries and inner messages too; and the message is read where no place has a ground.
 -- Not promised: what is read.
@@ -14,17 +15,19 @@ use native.Mathlib.Omega.{arith}
 use borrow.Author.Tests.{ne-eqb}
 use lib.Dec.{eqb, ltb, leb}
 use lib.ListN.{length, take, drop, getD}
+use Rattle.laws.proofs.Booleans.{clash}
 use Rattle.wire_read.specs.Varint.{VarintResult, got, bad, joined, groups, varint}
-use Rattle.wire_read.specs.Tags.{WireType, VARINT, I64, LEN, SGROUP, EGROUP, I32, reserved, wireType, TagResult, field, ended, tagError}
-use Rattle.wire_read.specs.Tags.{split, tag, LengthResult, bytes, lengthError, within, lengthPrefix}
-use Rattle.wire_read.specs.Skipping.{maxDepth, SkipResult, skipped, skipError, further, skipVarint, skipFixed, skipBytes, value, inGroup}
+use Rattle.wire_read.specs.Tags.{WireType, VARINT, I64, LEN, SGROUP, EGROUP, I32, reserved, wireType, TagResult, field, noTag, tagError}
+use Rattle.wire_read.specs.Tags.{split, tag, LengthResult, bytes, lengthError, lengthWithin, lengthPrefix}
+use Rattle.wire_read.specs.Skipping.{maxDepth, SkipResult, skipped, skipError, skipAfter, skipVarint, skipFixed, skipBytes, value, inGroup}
 use Rattle.wire_read.specs.Skipping.{groupIn}
 use Rattle.wire_read.specs.Fields.{FieldResult, noField, varintField, fixed64Field, bytesField, groupField, fixed32Field, fieldError}
-use Rattle.wire_read.specs.Fields.{littleEndian, content, behind, nextField}
+use Rattle.wire_read.specs.Fields.{littleEndian, content, fieldAfter, nextField}
 use Rattle.wire_read.proofs.Bounds.{VarintIn, varint-in}
-use Rattle.decoder.specs.Schema.{Schema, entry}
-use Rattle.decoder.specs.Fields.{State, Result, ok, refused, blank, Reader, Target, aNumber, someBytes, anEntry, aMessage, unknown, look}
-use Rattle.decoder.specs.Fields.{setSlot, setBytes, setNumber, addEntry, withField, andThen, inside, oneField, fieldsIn, readMessage}
+use Rattle.schema.specs.Schema.{Schema, entry}
+use Rattle.decoder.specs.Fields.{State, Result, ok, refused, blank, Reader, setSlot, setBytes, setNumber, addEntry, withField, andThen}
+use Rattle.decoder.specs.Fields.{inside, oneField, fieldsIn, readMessage}
+use Rattle.schema.specs.Targets.{Target, aNumber, someBytes, anEntry, aMessage, unknown, look}
 use Rattle.refusals.specs.Grounds.{Ground, ground, Every, Verdict, refuses, works}
 use Rattle.refusals.proofs.Tests.{Told, Finds, Tests, each, unlike, reworded, restated, equal, below, at-most}
 use Rattle.refusals.proofs.Order.{Outcome, end, passed, stopped, followed, one-test}
@@ -88,7 +91,7 @@ bad-varint s = bad-in 9 s
 -- ---- tags
 abbrev tagSays : TagResult → Verdict
 tagSays (field n w used) = works
-tagSays ended = works
+tagSays noTag = works
 tagSays (tagError code) = refuses code
 
 tag-decides : (s : List ℕ) → Decides (tagGrounds s) (tagSays (tag s))
@@ -103,16 +106,16 @@ tag-decides (b ∷ s) = by (varint (b ∷ s)) (bad-varint (b ∷ s))
         passed (f .told) (one-test tagSays (unlike (each (below v (2 ^ 32)) (each (below 0 (v / 8)) (below (v % 8) 6)))) refl refl)
 
 -- a part that has bytes left is not at its end
-not-ended : (b : ℕ) (s : List ℕ) → tag (b ∷ s) ≡ ended → ⊥
+not-ended : (b : ℕ) (s : List ℕ) → tag (b ∷ s) ≡ noTag → ⊥
 unfolding tag split
 not-ended b s e = by (varint (b ∷ s)) e
   where
-    on : (t : Bool) (v used : ℕ) → cond t (field (v / 8) (v % 8) used) (tagError 11) ≡ ended → ⊥
-    on true v used e = let z : _≡_ {A = ℕ} 0 1 = cc in omega arith
-    on false v used e = let z : _≡_ {A = ℕ} 0 1 = cc in omega arith
+    on : (t : Bool) (v used : ℕ) → cond t (field (v / 8) (v % 8) used) (tagError 11) ≡ noTag → ⊥
+    on true v used e = clash cc
+    on false v used e = clash cc
 
-    by : (g : VarintResult) → split g ≡ ended → ⊥
-    by bad e = let z : _≡_ {A = ℕ} 0 1 = cc in omega arith
+    by : (g : VarintResult) → split g ≡ noTag → ⊥
+    by bad e = clash cc
     by (got v used) e = on (ltb v (2 ^ 32) && (ltb 0 (v / 8) && ltb (v % 8) 6)) v used e
 
 -- ---- values
@@ -138,8 +141,8 @@ lengthSays (bytes used size) = works
 lengthSays (lengthError code) = refuses code
 
 length-decides : (s : List ℕ) (g : VarintResult) → VarintIn s g → Finds (isBad g) (BadVarint s)
-    → Decides (ground 10 (BadVarint s) ∷ ground 12 (LengthPast s g) ∷ []) (lengthSays (within s g))
-unfolding within
+    → Decides (ground 10 (BadVarint s) ∷ ground 12 (LengthPast s g) ∷ []) (lengthSays (lengthWithin s g))
+unfolding lengthWithin
 length-decides s bad l f = stopped (f .told)
 length-decides s (got size used) l f = passed (f .told) (one-test lengthSays past refl refl)
   where
@@ -160,14 +163,14 @@ bytes-decides : (s : List ℕ) → Decides (ground 10 (BadVarint s) ∷ ground 1
 unfolding lengthPrefix
 bytes-decides s = rw (skip-length s) (length-decides s (varint s) (varint-in s) (bad-varint s))
 
-further-says : (k : ℕ) (o : SkipResult) → skipSays (further k o) ≡ skipSays o
-unfolding further
+further-says : (k : ℕ) (o : SkipResult) → skipSays (skipAfter k o) ≡ skipSays o
+unfolding skipAfter
 further-says k (skipped used) = refl
 further-says k (skipError code) = refl
 
 -- an answer that says one thing says no other
 worked-not : (n : ℕ) → refuses n ≡ works → ⊥
-worked-not n e = let z : _≡_ {A = ℕ} 0 1 = cc in omega arith
+worked-not n e = clash cc
 
 module _ (skip : ℕ → ℕ → List ℕ → SkipResult) (group : ℕ → ℕ → List ℕ → List Ground)
     (q : (n d : ℕ) (s : List ℕ) → Decides (group n d s) (skipSays (skip n d s))) where
@@ -201,7 +204,7 @@ module _ (skip : ℕ → ℕ → List ℕ → SkipResult) (group : ℕ → ℕ �
       value-fails code g v = cc
 
       goes-on : (size : ℕ) → eqb w 4 ≡ false → its-value ≡ skipped size
-          → inGroup skip n d s ≡ further (used + size) (skip n d (drop (used + size) s))
+          → inGroup skip n d s ≡ skipAfter (used + size) (skip n d (drop (used + size) s))
       unfolding inGroup
       goes-on size g v = cc
 
@@ -232,19 +235,19 @@ module _ (skip : ℕ → ℕ → List ℕ → SkipResult) (group : ℕ → ℕ �
 
     some-left : Decides (inGroupGrounds skip group n d s) (skipSays (inGroup skip n d s))
     some-left =
-        passed (λ (e : s ≡ []). let z : _≡_ {A = ℕ} 0 1 = cc in omega arith)
+        passed (λ (e : s ≡ []). clash cc)
         (followed (tagGrounds s) (tag-decides s) (next (tag s) refl) (stop (tag s) refl))
       where
         next : (t : TagResult) → tag s ≡ t → tagSays (tag s) ≡ works
             → Decides (fieldInGroup skip group n d s (tag s)) (skipSays (inGroup skip n d s))
-        next ended e fine = absurd (not-ended b rest e)
+        next noTag e fine = absurd (not-ended b rest e)
         next (tagError code) e fine = absurd (worked-not code (sym (ap tagSays e) ∙ fine))
         next (field m w used) e fine =
             subst (λ (t : TagResult). Decides (fieldInGroup skip group n d s t) (skipSays (inGroup skip n d s))) (sym e)
             (field-decides m w used e)
 
         stop : (t : TagResult) → tag s ≡ t → (k : ℕ) → tagSays (tag s) ≡ refuses k → skipSays (inGroup skip n d s) ≡ refuses k
-        stop ended e k wrong = absurd (not-ended b rest e)
+        stop noTag e k wrong = absurd (not-ended b rest e)
         stop (tagError code) e k wrong = ap skipSays (tag-fails code e) ∙ sym (ap tagSays e) ∙ wrong
         stop (field m w used) e k wrong = absurd (worked-not k (sym wrong ∙ ap tagSays e))
 
@@ -303,8 +306,8 @@ content-says n EGROUP s = refl
 content-says n I32 s = fixed-says (leb 4 (length s)) (fixed32Field n (littleEndian (take 4 s)) 4) 4 refl
 content-says n reserved s = refl
 
-behind-says : (k : ℕ) (f : FieldResult) → fieldSays (behind k f) ≡ fieldSays f
-unfolding behind
+behind-says : (k : ℕ) (f : FieldResult) → fieldSays (fieldAfter k f) ≡ fieldSays f
+unfolding fieldAfter
 behind-says k noField = refl
 behind-says k (varintField n v used) = refl
 behind-says k (fixed64Field n v used) = refl
@@ -314,7 +317,7 @@ behind-says k (fixed32Field n v used) = refl
 behind-says k (fieldError code) = refl
 
 module _ (s : List ℕ) where
-  no-field : tag s ≡ ended → nextField s ≡ noField
+  no-field : tag s ≡ noTag → nextField s ≡ noField
   unfolding nextField
   no-field e = cc
 
@@ -322,7 +325,7 @@ module _ (s : List ℕ) where
   unfolding nextField
   bad-tag code e = cc
 
-  good-tag : (n w used : ℕ) → tag s ≡ field n w used → nextField s ≡ behind used (content n (wireType w) (drop used s))
+  good-tag : (n w used : ℕ) → tag s ≡ field n w used → nextField s ≡ fieldAfter used (content n (wireType w) (drop used s))
   unfolding nextField
   good-tag n w used e = cc
 
@@ -330,7 +333,7 @@ module _ (s : List ℕ) where
   place-decides = followed (tagGrounds s) (tag-decides s) (next (tag s) refl) (stop (tag s) refl)
     where
       next : (t : TagResult) → tag s ≡ t → tagSays (tag s) ≡ works → Decides (contentGrounds s (tag s)) (fieldSays (nextField s))
-      next ended e fine = rw (e, no-field e) end
+      next noTag e fine = rw (e, no-field e) end
       next (tagError code) e fine = absurd (worked-not code (sym (ap tagSays e) ∙ fine))
       next (field n w used) e fine =
           let left = drop used s in
@@ -338,7 +341,7 @@ module _ (s : List ℕ) where
           (value-decides (groupIn (length left)) (groupGrounds (length left)) (group-decides (length left)) n (wireType w) maxDepth left)
 
       stop : (t : TagResult) → tag s ≡ t → (k : ℕ) → tagSays (tag s) ≡ refuses k → fieldSays (nextField s) ≡ refuses k
-      stop ended e k wrong = absurd (worked-not k (sym wrong ∙ ap tagSays e))
+      stop noTag e k wrong = absurd (worked-not k (sym wrong ∙ ap tagSays e))
       stop (tagError code) e k wrong = ap fieldSays (bad-tag code e) ∙ sym (ap tagSays e) ∙ wrong
       stop (field n w used) e k wrong = absurd (worked-not k (sym wrong ∙ ap tagSays e))
 

@@ -1,4 +1,5 @@
--- For a user: when `trpc_header_check` gives which number. `header-check-exactly` is of any call, by its contract alone.
+-- For a user: when `check_header` gives which number. `header-check-exactly` is of any call, by its contract only.
+--
 -- Promised, for any bytes: 9, then 3 to 8, each exactly when its ground holds and none before it in the order does; 0 exactly when none
 -- holds.
 -- Not promised: the values of a good header, which the contract of `parse_header` says.
@@ -12,9 +13,10 @@ use mathlib.Core.List.{List}
 use native.Mathlib.Omega.{arith}
 use lib.Dec.{eqb}
 use lib.ListN.{length}
-use Rattle.deframer.specs.Header.{maxFrame, magicOk, dataTypeOk, streamTypeOk, totalOk, headerSizeOk, reservedOk, totalOf, headerSizeOf, faultOf, headerError}
+use Rattle.fixed_header.specs.Header.{maxFrame, magicOk, dataTypeOk, streamTypeOk, totalOk, headerSizeOk, reservedOk, totalOf, headerSizeOf}
+use Rattle.fixed_header.specs.Header.{faultOf, headerError}
 use Rattle.refusals.specs.Grounds.{Exactly}
-use Rattle.refusals.proofs.Tests.{Told, Finds, each, either, unlike, reworded, equal, up-to, choose}
+use Rattle.refusals.proofs.Tests.{Told, Finds, each, either-found, unlike, reworded, equal, up-to, found-by-choice}
 use Rattle.refusals.proofs.Order.{Outcome, Numbered, end, unless, exactly, first-says}
 use Rattle.thm_refusals.specs.Header.{byte, Unary, faults, headerGrounds, headerCheck}
 
@@ -30,10 +32,11 @@ module _ (h : List ℕ) where
           by true e = inl e
           by false n = inr (omega arith)
 
-  header-size : Finds (headerSizeOk (byte h 3) (totalOf h) (headerSizeOf h)) ((Unary h × (headerSizeOf h ≤ totalOf h - 16)) ⊎ ((Unary h → ⊥) × (headerSizeOf h ≡ 0)))
+  header-size : Finds (headerSizeOk (byte h 3) (totalOf h) (headerSizeOf h))
+      ((Unary h × (headerSizeOf h ≤ totalOf h - 16)) ⊎ ((Unary h → ⊥) × (headerSizeOf h ≡ 0)))
   unfolding headerSizeOk
   header-size =
-      choose (equal (byte h 3) 0)
+      found-by-choice (equal (byte h 3) 0)
       (λ u. reworded (λ l. inl (u, l)) (⊎-elim (λ x. x .1) (λ x. absurd (x .0 u))) (up-to (headerSizeOf h) (totalOf h - 16)))
       (λ n. reworded (λ z. inr (n, z)) (⊎-elim (λ x. absurd (n (x .0))) (λ x. x .1)) (equal (headerSizeOf h) 0))
 
@@ -42,7 +45,7 @@ module _ (h : List ℕ) where
   faults-outcome =
       unless (unlike (each (equal (byte h 1) 0x09) (equal (byte h 2) 0x30)))
       (unless (unlike data-type)
-      (unless (unlike (either (equal (byte h 3) 0) (each (up-to 1 (byte h 4)) (up-to (byte h 4) 4))))
+      (unless (unlike (either-found (equal (byte h 3) 0) (each (up-to 1 (byte h 4)) (up-to (byte h 4) 4))))
       (unless (unlike (each (up-to 16 (totalOf h)) (up-to (totalOf h) maxFrame)))
       (unless (unlike header-size)
       (unless (unlike (each (equal (byte h 15) 0) (equal (byte h 16) 0)))

@@ -20,7 +20,7 @@ use Rattle.queue.specs.declared.Removed.{Removed}
 use Rattle.queue.specs.Waiting.{capacity, latestArrival, waiting, any, hasPair, pairTwice, late, invalid}
 use Rattle.queue.specs.Calls.{added, taken, cancelled}
 use Rattle.refusals.specs.Grounds.{Some, Exactly}
-use Rattle.refusals.proofs.Tests.{Finds, each, either, unlike, equal, below, some}
+use Rattle.refusals.proofs.Tests.{Finds, each, either-found, unlike, equal, below, some}
 use Rattle.refusals.proofs.Order.{end, when, unless, exactly, first-says, Numbered}
 use Rattle.thm_refusals.specs.Queue.{HasPair, Late, PairTwice, Invalid, addEntry, takeEntry, cancelEntry}
 
@@ -32,11 +32,11 @@ late-waits = some (λ (j : Job). below latestArrival (j .arrival)) (any late) re
 
 pair-twice : (w : List Job) → Finds (pairTwice w) (PairTwice w)
 pair-twice [] = record { told = λ g. g }
-pair-twice (j ∷ js) = either (pair-waits (j .connection) (j .request) js) (pair-twice js)
+pair-twice (j ∷ js) = either-found (pair-waits (j .connection) (j .request) js) (pair-twice js)
 
 pub invalid-queue : (q : Queue) → Finds (invalid q) (Invalid q)
 unfolding invalid
-invalid-queue q = either (below capacity (q .count)) (either (pair-twice (waiting q)) (late-waits (waiting q)))
+invalid-queue q = either-found (below capacity (q .count)) (either-found (pair-twice (waiting q)) (late-waits (waiting q)))
 
 module _ (q : Queue) (j : Job) where
   add-numbered : Numbered (addEntry q j .grounds)

@@ -1,4 +1,5 @@
--- For a user: when `read` gives which number. `read-gives` is of any call, by its contract alone.
+-- For a user: when `read` gives which number. `read-gives` is of any call, by its contract only.
+--
 -- Promised, for any kind, frame and row numbers: 16; 9; 3 to 8; 9; the grounds of the fields from left to right, 10 to 14 (`Fields`); 15;
 -- each exactly when its ground holds and none before it in the order does. Where none holds, the record and its parts are handed over. All
 -- that is left, the row numbers too, is said for each case.
@@ -15,23 +16,25 @@ use native.Mathlib.Omega.{arith}
 use borrow.Author.Tests.{eq-eqb, le-leb, lt-leb}
 use lib.Dec.{eqb, leb}
 use lib.ListN.{length, take, getD}
-use Rattle.deframer.specs.Header.{faultOf, totalOf, idOf}
-use Rattle.deframer.proofs.Codes.{first-sixteen, Code, fault-code}
+use Rattle.laws.proofs.Booleans.{clash}
+use Rattle.fixed_header.specs.Header.{faultOf, totalOf, idOf}
+use Rattle.fixed_header.proofs.Codes.{first-sixteen, Code, fault-code}
 use Rattle.decoder.specs.Rows.{rowNumbers}
 use Rattle.decoder.specs.Fields.{Result, ok, refused}
 use Rattle.decoder.proofs.Results.{Sound, message-sound}
-use Rattle.message.specs.Records.{schemaOf, recordOf, attachmentSizeOf}
+use Rattle.schema.specs.Kinds.{schemaOf}
+use Rattle.records.specs.Records.{recordOf, attachmentSizeOf}
 use Rattle.message.specs.Frames.{Reading, headerOf, bodyOf, kindFits, refusedUntouched, refusedCleared, withAttachment, answered, readFrame}
-use Rattle.message.specs.declared.Kind.{Kind}
-use Rattle.message.specs.declared.Kind.the-variants as kinds
+use Rattle.schema.specs.declared.Kind.{Kind}
+use Rattle.schema.specs.declared.Kind.the-variants as kinds
 use Rattle.thm_stream.specs.Trace.{Reads}
 use Rattle.thm_stream.proofs.Traced.{all-read}
 use Rattle.refusals.specs.Grounds.{Ground, ground, works, refuses, Exactly}
 use Rattle.refusals.proofs.Tests.{Finds, each, unlike, equal, below, at-most}
 use Rattle.refusals.proofs.Order.{Outcome, end, when, when-not, unless, unless-two, unless-error, followed, exactly}
 use Rattle.thm_refusals.specs.Header.{byte, faults}
-use Rattle.thm_refusals.specs.Reader.{OfKind, fieldGrounds, fieldsRead, stateOf, AttachmentLarger, answerSays, readRefusal, readWork}
-use Rattle.thm_refusals.specs.Reader.{readEntry}
+use Rattle.thm_refusals.specs.Reader.{OfKind, fieldGrounds, fieldsRead, stateRead, AttachmentLarger}
+use Rattle.thm_refusals.specs.Reader.{answerSays, readRefusal, readWork, readEntry}
 use Rattle.thm_refusals.specs.Fields.{resultSays}
 use Rattle.thm_refusals.proofs.Header.{faults-outcome, faults-numbered}
 use Rattle.thm_refusals.proofs.Fields.{message-decides}
@@ -48,26 +51,28 @@ of-kind kinds.Close f = each (equal (byte f 3) 1) (equal (byte f 4) 4)
 module _ (kind : Kind) (f lent : List ℕ) where
   -- ---- the fields, and 15
   attachment-outcome : (x : Result) → resultSays x ≡ works
-      → Outcome (ground 15 (AttachmentLarger kind f x) ∷ []) (readRefusal lent) (readWork kind f lent (stateOf x)) (answered kind f lent x)
+      → Outcome (ground 15 (AttachmentLarger kind f x) ∷ []) (readRefusal lent) (readWork kind f lent (stateRead x))
+      (answered kind f lent x)
   unfolding answered withAttachment
   attachment-outcome (ok st) e = unless (at-most (attachmentSizeOf kind (st .slots)) (length (bodyOf kind f))) end
-  attachment-outcome (refused code) e = let z : _≡_ {A = ℕ} 0 1 = cc in absurd (omega arith)
+  attachment-outcome (refused code) e = clash cc
 
   fields-refused : (x : Result) → Sound x → (n : ℕ) → resultSays x ≡ refuses n → answered kind f lent x ≡ readRefusal lent n
   unfolding answered
-  fields-refused (ok st) s n e = let z : _≡_ {A = ℕ} 0 1 = cc in absurd (omega arith)
+  fields-refused (ok st) s n e = clash cc
   fields-refused (refused code) s n e =
       let same : code ≡ n = cc in
       rw (← same, le-leb 10 code (s .0), le-leb code 15 (omega (arith, s .1)))
 
   pub fields-outcome : Outcome (fieldGrounds kind f ++ ground 15 (AttachmentLarger kind f (fieldsRead kind f)) ∷ []) (readRefusal lent)
-      (readWork kind f lent (stateOf (fieldsRead kind f))) (answered kind f lent (fieldsRead kind f))
+      (readWork kind f lent (stateRead (fieldsRead kind f))) (answered kind f lent (fieldsRead kind f))
   fields-outcome =
       followed (fieldGrounds kind f) (message-decides f (schemaOf kind) 16 (headerOf kind f)) (attachment-outcome (fieldsRead kind f))
       (fields-refused (fieldsRead kind f) (message-sound f (schemaOf kind) 16 (headerOf kind f)))
 
   -- ---- the header
-  header-number : (e : ℕ) → Code e → (later : Reading) → cond (eqb e 0) later (readRefusal lent e) ≡ cond (eqb e 0) later (refusedUntouched e lent)
+  header-number : (e : ℕ) → Code e → (later : Reading)
+      → cond (eqb e 0) later (readRefusal lent e) ≡ cond (eqb e 0) later (refusedUntouched e lent)
   header-number e (inl z) later = rw (eq-eqb e 0 z)
   header-number e (inr r) later = rw (lt-leb 10 e (omega arith))
 

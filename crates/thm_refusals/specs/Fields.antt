@@ -2,8 +2,8 @@
 -- message's fields as one list, place after place, those within skipped groups, map entries and inner messages too.
 --
 -- Each ground is a proposition about the bytes at its place. Which place comes next is for the bytes to say: the list follows the reading
--- (crates `wire_read` and `decoder`, whose names are used). `s` is what is left of the part, `at` its place in the frame, `st` what has been
--- read.
+-- (crates `wire_read` and `decoder`, whose names are used). `s` is what is left of the part, `at` its place in the frame, `st` what has
+-- been read.
 -- Assumes nothing.
 use Prim.Native.Nat.{ℕ, zero, suc, _+_, _/_, _%_, _^_, _<_, _≤_}
 use mathlib.Core.Path.{_≡_}
@@ -13,12 +13,14 @@ use mathlib.Core.List.{List, [], _∷_, _++_}
 use lib.Dec.{eqb}
 use lib.ListN.{length, take, drop, getD}
 use Rattle.wire_read.specs.Varint.{VarintResult, got, bad, varint}
-use Rattle.wire_read.specs.Tags.{WireType, VARINT, I64, LEN, SGROUP, EGROUP, I32, reserved, wireType, TagResult, field, ended, tagError, tag}
+use Rattle.wire_read.specs.Tags.{WireType, VARINT, I64, LEN, SGROUP, EGROUP, I32, reserved, wireType, TagResult, field, noTag, tagError}
+use Rattle.wire_read.specs.Tags.{tag}
 use Rattle.wire_read.specs.Skipping.{SkipResult, skipped, skipError, value, groupIn, maxDepth}
-use Rattle.wire_read.specs.Fields.{FieldResult, noField, varintField, fixed64Field, bytesField, groupField, fixed32Field, fieldError, nextField}
-use Rattle.decoder.specs.Schema.{Schema, entry}
-use Rattle.decoder.specs.Fields.{State, Result, ok, refused, blank, Reader, Target, aNumber, someBytes, anEntry, aMessage, unknown, look}
-use Rattle.decoder.specs.Fields.{setSlot, setBytes, setNumber, addEntry, fieldsIn}
+use Rattle.wire_read.specs.Fields.{FieldResult, noField, varintField, fixed64Field, bytesField, groupField, fixed32Field, fieldError}
+use Rattle.wire_read.specs.Fields.{nextField}
+use Rattle.schema.specs.Schema.{Schema, entry}
+use Rattle.decoder.specs.Fields.{State, Result, ok, refused, blank, Reader, setSlot, setBytes, setNumber, addEntry, fieldsIn}
+use Rattle.schema.specs.Targets.{Target, aNumber, someBytes, anEntry, aMessage, unknown, look}
 use Rattle.refusals.specs.Grounds.{Ground, ground, Every, Verdict, refuses, works}
 
 -- ---- a varint: "10 | varint bad or cut off"
@@ -87,7 +89,7 @@ nextInGroup group n depth used s (skipped size) = group n depth (drop (used + si
 nextInGroup group n depth used s (skipError code) = []
 
 abbrev pub fieldInGroup : Skip → InGroup → (n depth : ℕ) → List ℕ → TagResult → List Ground
-fieldInGroup skip group n depth s ended = []
+fieldInGroup skip group n depth s noTag = []
 fieldInGroup skip group n depth s (tagError code) = []
 fieldInGroup skip group n depth s (field m w used) =
     cond (eqb w 4) (ground 11 (m ≡ n → ⊥) ∷ [])
@@ -97,14 +99,14 @@ fieldInGroup skip group n depth s (field m w used) =
 abbrev pub inGroupGrounds : Skip → InGroup → InGroup
 inGroupGrounds skip group n depth s = ground 12 (s ≡ []) ∷ (tagGrounds s ++ fieldInGroup skip group n depth s (tag s))
 
--- In at most `steps` fields. Each takes a byte, so a part's length is steps enough (`wire`, proofs/Fuel): with none left no byte is.
+-- In at most `steps` fields. Each takes a byte, so a part's length is steps enough (`wire_read`, proofs/Fuel): with none left no byte is.
 abbrev pub groupGrounds : (steps : ℕ) → InGroup
 groupGrounds zero n depth s = ground 12 (Unit {0}) ∷ []
 groupGrounds (suc steps) n depth s = inGroupGrounds (groupIn steps) (groupGrounds steps) n depth s
 
 -- ---- a field of a message, its tag and its value
 abbrev pub contentGrounds : List ℕ → TagResult → List Ground
-contentGrounds s ended = []
+contentGrounds s noTag = []
 contentGrounds s (tagError code) = []
 contentGrounds s (field n w used) = valueGrounds (groupGrounds (length (drop used s))) n (wireType w) maxDepth (drop used s)
 

@@ -5,7 +5,7 @@ use mathlib.Core.Path.{_≡_}
 use mathlib.Core.Logic.{_⊎_}
 use mathlib.Core.List.{List, [], _∷_}
 use lib.ListN.{length, getD}
-use Rattle.deframer.specs.Header.{maxFrame, totalOf, headerSizeOf}
+use Rattle.fixed_header.specs.Header.{maxFrame, totalOf, headerSizeOf}
 use Rattle.refusals.specs.Grounds.{Ground, ground, Entry, numbered}
 
 -- the paper's byte n of a header, counted from 1: n is never 0 below
@@ -52,7 +52,7 @@ faults h =
     ∷ ground 8 (ReservedUsed h)
     ∷ []
 
--- ---- `trpc_header_check`: "9 | length isn't the total (judge: not 16)"; "gets a number: 0 or the refusal"
+-- ---- `check_header`: "9 | length isn't the total (judge: not 16)"; "gets a number: 0 or the refusal"
 abbrev pub headerGrounds : List ℕ → List Ground
 headerGrounds h = ground 9 (length h ≡ 16 → ⊥) ∷ faults h
 

@@ -7,13 +7,14 @@ use mathlib.Core.Bool.{cond, _&&_}
 use mathlib.Core.List.{List, [], _∷_, _++_}
 use lib.Dec.{leb}
 use lib.ListN.{length, take}
-use Rattle.deframer.specs.Header.{totalOf, idOf}
+use Rattle.fixed_header.specs.Header.{totalOf, idOf}
 use Rattle.decoder.specs.Rows.{rowNumbers, laidOut}
 use Rattle.decoder.specs.Fields.{State, Result, ok, refused, blank, readMessage}
-use Rattle.message.specs.Records.{schemaOf, recordOf, attachmentSizeOf}
+use Rattle.schema.specs.Kinds.{schemaOf}
+use Rattle.records.specs.Records.{recordOf, attachmentSizeOf}
 use Rattle.message.specs.Frames.{Reading, headerOf, bodyOf, lastBytes, refusedUntouched, refusedCleared}
-use Rattle.message.specs.declared.Kind.{Kind}
-use Rattle.message.specs.declared.Kind.the-variants as kinds
+use Rattle.schema.specs.declared.Kind.{Kind}
+use Rattle.schema.specs.declared.Kind.the-variants as kinds
 use Rattle.message.specs.declared.Answer.{Answer}
 use Rattle.message.specs.declared.Answer.the-variants as answers
 use Rattle.refusals.specs.Grounds.{Ground, ground, Verdict, refuses, works, Entry}
@@ -40,13 +41,13 @@ abbrev pub fieldsRead : Kind → (frame : List ℕ) → Result
 fieldsRead kind f = readMessage f (schemaOf kind) 16 (headerOf kind f)
 
 -- what was read; nothing where it was refused
-abbrev pub stateOf : Result → State
-stateOf (ok st) = st
-stateOf (refused code) = blank
+abbrev pub stateRead : Result → State
+stateRead (ok st) = st
+stateRead (refused code) = blank
 
 -- "15 | reader, writer | attachment larger than body": of the attachment_size that was read
 abbrev pub AttachmentLarger : Kind → (frame : List ℕ) → Result → Type 0
-AttachmentLarger kind f x = length (bodyOf kind f) < attachmentSizeOf kind (stateOf x .slots)
+AttachmentLarger kind f x = length (bodyOf kind f) < attachmentSizeOf kind (stateRead x .slots)
 
 abbrev pub readGrounds : Kind → (frame lent : List ℕ) → List Ground
 readGrounds kind f lent =
@@ -87,5 +88,5 @@ readEntry kind f lent =
       grounds = readGrounds kind f lent;
       says = λ x. answerSays (x .answer);
       refusal = readRefusal lent;
-      work = readWork kind f lent (stateOf (fieldsRead kind f));
+      work = readWork kind f lent (stateRead (fieldsRead kind f));
     }

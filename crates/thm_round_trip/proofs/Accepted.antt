@@ -8,21 +8,22 @@ use borrow.Author.Tests.{leb-true, eqb-true, eqb-false}
 use lib.Dec.{eqb, leb, leb·zero}
 use lib.ListN.{length, take, drop}
 use lib.Seq.{take-append-seam}
-use Rattle.deframer.specs.Header.{maxFrame}
-use Rattle.deframer.proofs.Codes.{kept as passed}
+use Rattle.fixed_header.specs.Header.{maxFrame}
+use Rattle.laws.proofs.Booleans.{clash, kept}
 use Rattle.decoder.specs.Rows.{rowsIn}
-use Rattle.message.specs.Records.{schemaOf, attachmentSizeOf}
-use Rattle.message.specs.declared.Kind.{Kind}
-use Rattle.message.specs.declared.Kind.the-variants as kinds
-use Rattle.message.specs.declared.Record.{Record}
-use Rattle.outgoing.specs.Content.{kindOf, rowCount, slotsOf}
+use Rattle.schema.specs.Kinds.{schemaOf}
+use Rattle.records.specs.Records.{attachmentSizeOf}
+use Rattle.schema.specs.declared.Kind.{Kind}
+use Rattle.schema.specs.declared.Kind.the-variants as kinds
+use Rattle.records.specs.declared.Record.{Record}
+use Rattle.records.specs.Content.{kindOf, rowCount, slotsOf}
 use Rattle.writer_checks.specs.Grounds.{hasMap, bodyOk, contentError}
 use Rattle.writer_checks.proofs.Accepted as content
 use Rattle.writer.specs.Writing.{messageOf, frameOf, sizeError, writeError, wrote, refusedWith}
 use Rattle.writer.specs.declared.Encoded.the-variants.{Frame}
-use Rattle.thm_round_trip.proofs.Said.{hasRows, kept}
+use Rattle.thm_round_trip.proofs.Said.{hasRows, keptRows}
 
-pub record Accepted (r : Record) (source numbers body : List ℕ) : Type 0 where
+pub record WriteAccepted (r : Record) (source numbers body : List ℕ) : Type 0 where
   pub content : content.Accepted (kindOf r) (slotsOf r) (rowCount r) source numbers (length body)
   pub small : length (frameOf r source numbers body) ≤ maxFrame
 
@@ -34,17 +35,17 @@ no-code code later e = by (eqb code 0) refl e
     by true z e = (eqb-true code 0 z, e)
     by false z e = absurd (eqb-false code 0 z e)
 
-pub accepted : (r : Record) (source numbers body : List ℕ) (room : ℕ) → writeError r source numbers body room ≡ 0
-    → Accepted r source numbers body
+pub write-accepted : (r : Record) (source numbers body : List ℕ) (room : ℕ) → writeError r source numbers body room ≡ 0
+    → WriteAccepted r source numbers body
 unfolding writeError sizeError
-accepted r source numbers body room e =
+write-accepted r source numbers body room e =
     let total = length (frameOf r source numbers body) in
     let size = length (messageOf r source numbers) in
     let code = contentError (kindOf r) (slotsOf r) (rowCount r) source numbers (length body) in
     let none = no-code code (sizeError size total room) e in
     record {
       content = content.accepted (kindOf r) (slotsOf r) (rowCount r) source numbers (length body) (none .0);
-      small = leb-true _ _ (passed (leb total maxFrame) 19 _ (omega arith) (none .1) .0);
+      small = leb-true _ _ (kept (leb total maxFrame) 19 _ (omega arith) (none .1) .0);
     }
 
 -- the answer that a frame was written, and the frame in the output
@@ -62,7 +63,7 @@ done frame output error size = by (eqb error 0) refl
     by true e a =
         let is : length frame ≡ size = cc in
         record { no-error = eqb-true error 0 e; frame-is = rw (← is) (take-append-seam frame (drop (length frame) output)) }
-    by false e a = let z : _≡_ {A = ℕ} 0 1 = cc in absurd (omega arith)
+    by false e a = clash cc
 
 -- ---- rows and body by the kind
 no-rows : (count : ℕ) (numbers : List ℕ) → eqb count 0 ≡ true → [] ≡ rowsIn count numbers
@@ -71,8 +72,8 @@ no-rows count numbers e = rw (eqb-true count 0 e)
 
 -- a kind with no map has no rows
 pub rows-kept : (kind : Kind) (count : ℕ) (numbers : List ℕ) → hasMap kind || eqb count 0 ≡ true
-    → kept (schemaOf kind) (rowsIn count numbers) ≡ rowsIn count numbers
-unfolding kept hasRows hasMap
+    → keptRows (schemaOf kind) (rowsIn count numbers) ≡ rowsIn count numbers
+unfolding keptRows hasRows hasMap
 rows-kept kinds.Request count numbers allowed = refl
 rows-kept kinds.Response count numbers allowed = refl
 rows-kept kinds.Init count numbers allowed = refl

@@ -1,5 +1,5 @@
--- What `Writes` takes a call of `write` to ensure is the `ensures` of its contract, and what `Held` takes of its record is its type: both
--- are the same by computation, so neither can be changed without the other.
+-- What `Writes` and `Locates` take a call of `write` and of `read_spans` to ensure is the `ensures` of its contract, and what `Held` takes
+-- of a record is its type: the two are the same by computation, so neither can be changed without the other.
 -- Assumes nothing.
 use Prim.Native.Nat.{ℕ}
 use mathlib.Core.Path.{_≡_, refl}
@@ -17,11 +17,14 @@ use denote.Ref.{RefT, now}
 use denote.RattleType.{RattleType}
 use denote.Signature.{typesAt}
 use denote.Triple.Clauses.{atExit}
-use Rattle.message.proofs.Record as declared
-use Rattle.message.specs.declared.Record.{Record}
+use Rattle.records.proofs.Record as declared
+use Rattle.message.proofs.«read_spans» as «read_spans»
+use Rattle.schema.specs.declared.Kind.{Kind}
+use Rattle.message.specs.declared.Located.{Located}
+use Rattle.records.specs.declared.Record.{Record}
 use Rattle.writer.specs.declared.Encoded.{Encoded}
 use Rattle.writer.proofs.write as write
-use Rattle.thm_round_trip.specs.Calls.{Writes}
+use Rattle.thm_round_trip.specs.Calls.{Writes, Locates}
 
 pub write-ensures : {M : Type 1} (𝓤 : URA M) (H : Heap 𝓤) (A : Atoms 𝓤) (mem : Memory → SProp 𝓤) (run : Routine → Fun 𝓤) (a b c d : Lft)
     (r : Record) (source rows body out : RefT (List ℕ)) (answer : Encoded) (after : List ℕ)
@@ -33,3 +36,10 @@ write-ensures 𝓤 H A mem run a b c d r source rows body out answer after = ref
 -- the record that a call of it is passed is of the type that `Held` names
 pub write-takes : (κs : Lfts 4) → (others : List RattleType) × (typesAt (write.signature .params) κs ≡ declared.the-row ∷ others)
 write-takes κs = (_, refl)
+
+pub read-spans-ensures : {M : Type 1} (𝓤 : URA M) (H : Heap 𝓤) (A : Atoms 𝓤) (mem : Memory → SProp 𝓤) (run : Routine → Fun 𝓤) (a b : Lft)
+    (kind : Kind) (frame rows : RefT (List ℕ)) (x : Located) (after : List ℕ)
+    → «read_spans».clauses 𝓤 H A mem run (a, (b, tt)) (kind, (frame, (rows, tt))) .ensures tt x
+    (atExit «read_spans».ended (a, (b, tt)) (kind, (frame, (rows, tt))) (tt, (tt, (after, tt))))
+    ≡ fact 𝓤 (Locates kind (now frame) (now rows) x after)
+read-spans-ensures 𝓤 H A mem run a b kind frame rows x after = refl

@@ -1,4 +1,5 @@
--- The writer's refusals, on the definition that the contract of `write` names; `Called` has the function.
+-- For a user: the writer's refusals, on the definition that the contract of `write` names; `CalledBack` has the function.
+--
 -- Promised, for every record, any source bytes, row numbers, body and output, of whatever size: each number is given exactly when its
 -- ground holds and none before it in document 01's order does; with no ground the frame is written; and the whole output afterwards, as it
 -- was after a refusal, else the frame and then what was after it.
@@ -11,25 +12,25 @@ use mathlib.Core.Path.{refl}
 use mathlib.Core.List.{List}
 use native.Mathlib.Omega.{arith}
 use lib.ListN.{length, take}
-use Rattle.deframer.specs.Header.{maxFrame}
-use Rattle.message.specs.Records.{attachmentSizeOf}
-use Rattle.message.specs.declared.Record.{Record}
-use Rattle.outgoing.specs.Content.{kindOf, recordId, rowCount, slotsOf}
+use Rattle.fixed_header.specs.Header.{maxFrame}
+use Rattle.records.specs.Records.{attachmentSizeOf}
+use Rattle.records.specs.declared.Record.{Record}
+use Rattle.records.specs.Content.{kindOf, recordId, rowCount, slotsOf}
 use Rattle.writer_checks.specs.Grounds.{maxRows, hasMap, rowsOk, contentError}
 use Rattle.writer.specs.Writing.{rowsOf, messageOf, frameOf, maxHeader, sizeError, writeError, written}
 use Rattle.refusals.specs.Grounds.{Ground, Exactly}
 use Rattle.refusals.proofs.Tests.{at-most, none-unless}
 use Rattle.refusals.proofs.Order.{Outcome, Numbered, end, unless, unless-two, unless-three, unless-error, exactly}
-use Rattle.thm_round_trip.specs.Refusals.{hasBody, grounds, writeEntry}
+use Rattle.thm_round_trip.specs.Refusals.{hasBody, writeGrounds, writeEntry}
 use Rattle.thm_round_trip.proofs.FrameBack.{frame-length}
 use Rattle.thm_round_trip.proofs.GroundTests.{spans-ok, rows-ok, keys-ok, parts-ok, body-tests}
 
 -- those that `contentError` looks for: all before 19
-abbrev contentGrounds : Record → (source numbers body : List ℕ) → (room : ℕ) → List Ground
-contentGrounds r source numbers body room = take 9 (grounds r source numbers body room)
+abbrev groundsBefore19 : Record → (source numbers body : List ℕ) → (room : ℕ) → List Ground
+groundsBefore19 r source numbers body room = take 9 (writeGrounds r source numbers body room)
 
 content-outcome : (r : Record) (source numbers body : List ℕ) (room : ℕ)
-    → Outcome (contentGrounds r source numbers body room) (λ n. n) 0
+    → Outcome (groundsBefore19 r source numbers body room) (λ n. n) 0
     (contentError (kindOf r) (slotsOf r) (rowCount r) source numbers (length body))
 unfolding contentError rowsOk
 content-outcome r source numbers body room =
@@ -44,27 +45,28 @@ content-outcome r source numbers body room =
     end))))))
 
 write-outcome : (r : Record) (source numbers body : List ℕ) (room : ℕ)
-    → Outcome (grounds r source numbers body room) (λ n. n) 0 (writeError r source numbers body room)
+    → Outcome (writeGrounds r source numbers body room) (λ n. n) 0 (writeError r source numbers body room)
 unfolding writeError sizeError
 write-outcome r source numbers body room =
     let frame = length (frameOf r source numbers body) in
-    unless-error (contentGrounds r source numbers body room) (contentError (kindOf r) (slotsOf r) (rowCount r) source numbers (length body))
-    (search arith depth 20) (content-outcome r source numbers body room)
+    unless-error (groundsBefore19 r source numbers body room)
+    (contentError (kindOf r) (slotsOf r) (rowCount r) source numbers (length body)) (search arith depth 20)
+    (content-outcome r source numbers body room)
     (unless (at-most frame maxFrame)
     (unless (at-most (length (messageOf r source numbers)) maxHeader)
     (unless (at-most frame room)
     end)))
 
-numbered : (r : Record) (source numbers body : List ℕ) (room : ℕ) → Numbered (grounds r source numbers body room)
-numbered r source numbers body room = search arith depth 20
+grounds-numbered : (r : Record) (source numbers body : List ℕ) (room : ℕ) → Numbered (writeGrounds r source numbers body room)
+grounds-numbered r source numbers body room = search arith depth 20
 
 pub written-exactly : (r : Record) (source numbers body output : List ℕ)
     → Exactly (writeEntry r source numbers body output) (written r source numbers body output)
 written-exactly r source numbers body output =
     let room = length output in
     exactly (writeEntry r source numbers body output) (written r source numbers body output) (λ none. refl) (λ n f. refl)
-    (unless-error (grounds r source numbers body room) (writeError r source numbers body room) (numbered r source numbers body room)
-    (write-outcome r source numbers body room) end)
+    (unless-error (writeGrounds r source numbers body room) (writeError r source numbers body room)
+    (grounds-numbered r source numbers body room) (write-outcome r source numbers body room) end)
 
 -- 20 is never given: its ground is one of 19's, which comes before it.
 pub nineteen-first : (r : Record) (source numbers body : List ℕ) → maxHeader < length (messageOf r source numbers)

@@ -1,4 +1,4 @@
--- One field that was written is read: its value is where `Landing` says, and the reading goes on behind it.
+-- One field that was written is read: its value is where `Landing` says, and the reading goes on after it.
 use Prim.Native.Nat.{ℕ, suc, _+_, _%_, _^_, _<_, _≤_}
 use mathlib.Core.Path.{_≡_, refl, sym, ap, _∙_}
 use mathlib.Core.Bool.{Bool, true, false, cond}
@@ -11,9 +11,10 @@ use native.Mathlib.Nat.{mod-lt, mod-eq-of-lt, add-zero, add-assoc}
 use borrow.Author.Tests.{lt-ltb, eqb-true, ltb-false}
 use Rattle.wire_read.specs.Varint.{lowU32, twosComplement}
 use Rattle.wire_write.specs.Writing.{putVarint, signExtended, putTag, putBytes}
-use Rattle.decoder.specs.Schema.{Integer, uint32, int32, Schema, entry}
+use Rattle.schema.specs.Schema.{Integer, uint32, int32, Schema, entry}
 use Rattle.decoder.specs.Rows.{Row}
-use Rattle.decoder.specs.Fields.{State, ok, blank, startOf, Reader, aNumber, someBytes, anEntry, look, setSlot, setBytes, addEntry, withField, fieldsIn}
+use Rattle.decoder.specs.Fields.{State, ok, blank, startOf, Reader, setSlot, setBytes, addEntry, withField, fieldsIn}
+use Rattle.schema.specs.Targets.{aNumber, someBytes, anEntry, look}
 use Rattle.writer.specs.Encoding.{wide, putNumber, putSome, putEntry, putRows}
 use Rattle.writer_checks.specs.Grounds.{keysDiffer}
 use Rattle.thm_round_trip.proofs.Written.{reads, headSize, length-bytes, number-step, bytes-step}

@@ -3,10 +3,10 @@ use Prim.Native.Nat.{ℕ, _<_, _≤_, _^_}
 use mathlib.Core.Path.{_≡_}
 use mathlib.Core.Bool.{Bool, true, false, _&&_}
 use native.Mathlib.Omega.{arith}
-use Rattle.decoder.specs.Schema.{Schema, done, number, bytes, map, message, width}
-use Rattle.message.specs.Records.{schemaOf}
-use Rattle.message.specs.declared.Kind.{Kind}
-use Rattle.message.specs.declared.Kind.the-variants as kinds
+use Rattle.schema.specs.Schema.{Schema, done, number, bytes, map, message, width}
+use Rattle.schema.specs.Kinds.{schemaOf}
+use Rattle.schema.specs.declared.Kind.{Kind}
+use Rattle.schema.specs.declared.Kind.the-variants as kinds
 use Rattle.thm_round_trip.proofs.Said.{hasRows}
 
 unfoldable pub hasParts : Schema → Bool

@@ -1,77 +1,48 @@
 -- What the writer's frame says of itself: its fixed header is good and gives its sizes, its id and its kind, and its parts are the message
--- and the body
-use Prim.Native.Nat.{ℕ, _+_, _*_, _-_, _/_, _%_, _^_, _<_, _≤_}
+-- and the body. The round trip of the 16 bytes is that of `fixed_header`.
+use Prim.Native.Nat.{ℕ, _+_, _-_, _^_, _<_, _≤_}
 use mathlib.Core.Path.{_≡_, refl, sym, _∙_}
-use mathlib.Core.Bool.{Bool, true, false, cond, _&&_}
+use mathlib.Core.Bool.{true}
 use mathlib.Core.List.{List, [], _∷_, _++_, append-assoc, append-nil}
 use native.Mathlib.Omega.{arith}
 use borrow.Author.Tests.{le-leb, eqb-true}
-use lib.Dec.{eqb, leb}
+use lib.Dec.{eqb}
 use lib.ListN.{length, take, drop, getD, length-append}
 use lib.Seq.{take-at, drop-at, take-append-seam, drop-append-seam, drop-drop}
-use Rattle.deframer.specs.Header.{maxFrame, be16Of, be32Of, totalOf, headerSizeOf, idOf, magicOk, dataTypeOk, streamTypeOk, totalOk}
-use Rattle.deframer.specs.Header.{headerSizeOk, reservedOk, faultOf, headerError}
-use Rattle.deframer.proofs.Codes.{sixteen}
+use Rattle.fixed_header.specs.Header.{maxFrame, headerSizeOf, totalOk, headerSizeOk}
+use Rattle.fixed_header.specs.Put.{dataType, streamType, fixedHeader}
+use Rattle.fixed_header.specs.declared.FrameType.{FrameType}
+use Rattle.fixed_header.specs.declared.FrameType.the-variants.{Unary, Init, Data, Feedback, Close}
+use Rattle.fixed_header.specs.Put.{Keeps}
+use Rattle.fixed_header.proofs.RoundTrip.{sixteen-bytes, total-back, size-back, id-back, header-good}
 use Rattle.decoder.specs.Rows.{Row}
-use Rattle.message.specs.Records.{schemaOf}
+use Rattle.schema.specs.Kinds.{schemaOf}
 use Rattle.message.specs.Frames.{headerOf, bodyOf, kindFits}
 use Rattle.message.specs.Parts.{Whole}
-use Rattle.message.specs.declared.Kind.{Kind}
-use Rattle.message.specs.declared.Kind.the-variants as kinds
+use Rattle.schema.specs.declared.Kind.{Kind}
+use Rattle.schema.specs.declared.Kind.the-variants as kinds
 use Rattle.writer.specs.Encoding.{putFields}
 use Rattle.writer_checks.specs.Grounds.{bodyOk}
-use Rattle.writer.specs.Writing.{dataType, streamType, headerSize, fixedHeader}
-
--- ---- "Numbers are big-endian"
-sixteen-bits : (n : ℕ) → n < 65536 → n / 256 % 256 * 256 + n % 256 ≡ n
-sixteen-bits n h = omega arith
-
-thirty-two-bits : (n : ℕ) → n < 2 ^ 32
-    → (n / 65536 / 256 % 256 * 256 + n / 65536 % 256) * 65536 + (n % 65536 / 256 % 256 * 256 + n % 65536 % 256) ≡ n
-thirty-two-bits n h = omega arith
+use Rattle.writer.specs.Writing.{frameTypeOf, headerSize, headerFor}
 
 -- ---- the fixed header
--- a kind's types are good, and the kind is theirs
-types-good : (kind : Kind)
-    → (dataTypeOk (dataType kind) ≡ true)
-    × (streamTypeOk (dataType kind) (streamType kind) ≡ true)
-    × (kindFits kind (dataType kind) (streamType kind) ≡ true)
-unfolding dataType streamType dataTypeOk streamTypeOk kindFits
-types-good kinds.Request = (refl, refl, refl)
-types-good kinds.Response = (refl, refl, refl)
-types-good kinds.Init = (refl, refl, refl)
-types-good kinds.Data = (refl, refl, refl)
-types-good kinds.Feedback = (refl, refl, refl)
-types-good kinds.Close = (refl, refl, refl)
+-- a kind is that of its types
+kind-fits : (kind : Kind) → kindFits kind (dataType (frameTypeOf kind)) (streamType (frameTypeOf kind)) ≡ true
+unfolding kindFits
+kind-fits kinds.Request = refl
+kind-fits kinds.Response = refl
+kind-fits kinds.Init = refl
+kind-fits kinds.Data = refl
+kind-fits kinds.Feedback = refl
+kind-fits kinds.Close = refl
 
-size-good : (unary : Bool) (n total : ℕ) → n ≤ total - 16 → cond unary (leb (cond unary n 0) (total - 16)) (eqb (cond unary n 0) 0) ≡ true
-size-good true n total h = le-leb n (total - 16) h
-size-good false n total h = refl
-
-passes : (ok : Bool) (code : ℕ) {later : ℕ} → ok ≡ true → later ≡ 0 → cond ok later code ≡ 0
-passes ok code e z = rw e z
-
--- with anything behind it
-module _ (kind : Kind) (total size id : ℕ) (rest : List ℕ) where
-  sixteen-bytes : length (fixedHeader kind total size id) ≡ 16
-  unfolding fixedHeader
-  sixteen-bytes = refl
-
-  total-back : total < 2 ^ 32 → totalOf (fixedHeader kind total size id ++ rest) ≡ total
-  unfolding fixedHeader totalOf be32Of be16Of
-  total-back h = thirty-two-bits total h
-
-  size-back : size < 65536 → headerSizeOf (fixedHeader kind total size id ++ rest) ≡ size
-  unfolding fixedHeader headerSizeOf be16Of
-  size-back h = sixteen-bits size h
-
-  id-back : id < 2 ^ 32 → idOf (fixedHeader kind total size id ++ rest) ≡ id
-  unfolding fixedHeader idOf be32Of be16Of
-  id-back h = thirty-two-bits id h
-
-  kind-back : kindFits kind (getD (fixedHeader kind total size id ++ rest) 2 0) (getD (fixedHeader kind total size id ++ rest) 3 0) ≡ true
-  unfolding fixedHeader
-  kind-back = types-good kind .2
+size-fits : (t : FrameType) (n total : ℕ) → n ≤ total - 16 → headerSizeOk (dataType t) total (headerSize t n) ≡ true
+unfolding headerSizeOk
+size-fits Unary n total h = le-leb n (total - 16) h
+size-fits Init n total h = refl
+size-fits Data n total h = refl
+size-fits Feedback n total h = refl
+size-fits Close n total h = refl
 
 -- ---- the frame of a message and a body
 module _ (kind : Kind) (id : ℕ) (message body : List ℕ) where
@@ -79,57 +50,45 @@ module _ (kind : Kind) (id : ℕ) (message body : List ℕ) where
   total = 16 + length message + length body
 
   abbrev header : List ℕ
-  header = fixedHeader kind total (headerSize kind message) id
+  header = fixedHeader (headerFor kind id message body)
+
+  sixteen : length header ≡ 16
+  sixteen = sixteen-bytes (headerFor kind id message body)
 
   frame-splits : header ++ message ++ body ≡ header ++ (message ++ body)
   frame-splits = append-assoc header message body
 
   pub frame-length : length (header ++ message ++ body) ≡ total
-  frame-length =
-      omega (
-        arith,
-        length-append (header ++ message) body,
-        length-append header message,
-        sixteen-bytes kind total
-            (headerSize kind message) id [],
-      )
+  frame-length = omega (arith, length-append (header ++ message) body, length-append header message, sixteen)
 
   pub behind-header : drop 16 (header ++ message ++ body) ≡ message ++ body
-  behind-header = rw frame-splits (drop-at header (message ++ body) 16 (sixteen-bytes kind total (headerSize kind message) id []))
+  behind-header = rw frame-splits (drop-at header (message ++ body) 16 sixteen)
 
-  module _ (small : total ≤ maxFrame) where
-    size-small : headerSize kind message < 65536
-    size-small = by (eqb (dataType kind) 0)
-      where
-        by : (unary : Bool) → cond unary (length message) 0 < 65536
-        by true = omega arith
-        by false = omega arith
+  kind-back : (rest : List ℕ) → kindFits kind (getD (header ++ rest) 2 0) (getD (header ++ rest) 3 0) ≡ true
+  unfolding fixedHeader
+  kind-back rest = kind-fits kind
 
-    header-good : headerError header ≡ 0
-    unfolding fixedHeader faultOf magicOk totalOk headerSizeOk reservedOk
-    header-good =
-        let total-is : totalOf header ≡ total = total-back kind total (headerSize kind message) id [] (omega arith) in
-        let size-is : headerSizeOf header ≡ headerSize kind message = size-back kind total (headerSize kind message) id [] size-small in
-        sixteen header (sixteen-bytes kind total (headerSize kind message) id [])
-        ∙ passes (dataTypeOk (dataType kind)) 4 (types-good kind .0)
-        (passes (streamTypeOk (dataType kind) (streamType kind)) 5 (types-good kind .1)
-        (passes (leb 16 (totalOf header) && leb (totalOf header) maxFrame) 6
-        (rw (total-is, le-leb 16 total (omega arith), le-leb total maxFrame small))
-        (passes (cond (eqb (dataType kind) 0) (leb (headerSizeOf header) (totalOf header - 16)) (eqb (headerSizeOf header) 0)) 7
-        (rw (total-is, size-is) (size-good (eqb (dataType kind) 0) (length message) total (omega arith)))
-        refl)))
+  module _ (small : total ≤ maxFrame) (id-small : id < 2 ^ 32) where
+    keeps : Keeps (headerFor kind id message body)
+    unfolding totalOk
+    keeps =
+        record {
+          total-good = rw (le-leb 16 total (omega arith), le-leb total maxFrame small);
+          size-good = size-fits (frameTypeOf kind) (length message) total (omega arith);
+          id-small = id-small;
+        }
 
     -- it is whole, of its kind, and has its id
-    pub frame-whole : id < 2 ^ 32 → Whole kind (header ++ message ++ body) (headerSize kind message) id
-    frame-whole id-small =
+    pub frame-whole : Whole kind (header ++ message ++ body) (headerSize (frameTypeOf kind) (length message)) id
+    frame-whole =
+        let h = headerFor kind id message body in
         rw frame-splits
         (record {
-          good = rw (take-at header (message ++ body) 16 (sixteen-bytes kind total (headerSize kind message) id [])) header-good;
-          total-is =
-              rw (← frame-splits) frame-length ∙ sym (total-back kind total (headerSize kind message) id (message ++ body) (omega arith));
-          fits = kind-back kind total (headerSize kind message) id (message ++ body);
-          size-is = sym (size-back kind total (headerSize kind message) id (message ++ body) size-small);
-          id-is = sym (id-back kind total (headerSize kind message) id (message ++ body) id-small);
+          good = rw (take-at header (message ++ body) 16 sixteen) (header-good h keeps);
+          total-is = rw (← frame-splits) frame-length ∙ sym (total-back h keeps (message ++ body));
+          fits = kind-back (message ++ body);
+          size-is = sym (size-back h keeps (message ++ body));
+          id-is = sym (id-back h keeps (message ++ body));
         })
 
 -- ---- the parts
@@ -137,7 +96,7 @@ empty-list : (l : List ℕ) → length l ≡ 0 → l ≡ []
 empty-list [] e = refl
 empty-list (x ∷ l) e = let z : ⊥ = omega arith in absurd z
 
--- by what stands behind the fixed header
+-- by what comes after the fixed header
 module _ (f message body : List ℕ) (behind : drop 16 f ≡ message ++ body) where
   unary : headerSizeOf f ≡ length message → (take (headerSizeOf f) (drop 16 f) ≡ message) × (drop (16 + headerSizeOf f) f ≡ body)
   unary size = (
@@ -155,9 +114,10 @@ module _ (source : List ℕ) (rows : List Row) (slots body f : List ℕ) where
   messageIn kind = putFields source rows (schemaOf kind) 0 slots
 
   -- only Data has no message, and only the unary kinds and Data have a body
-  pub parts-back : (kind : Kind) → drop 16 f ≡ messageIn kind ++ body → headerSizeOf f ≡ headerSize kind (messageIn kind)
+  pub parts-back : (kind : Kind) → drop 16 f ≡ messageIn kind ++ body
+      → headerSizeOf f ≡ headerSize (frameTypeOf kind) (length (messageIn kind))
       → bodyOk kind slots (length body) ≡ true → (headerOf kind f ≡ messageIn kind) × (bodyOf kind f ≡ body)
-  unfolding headerOf bodyOf bodyOk dataType putFields
+  unfolding headerOf bodyOf bodyOk putFields
   parts-back kinds.Request behind size ok = unary f (messageIn kinds.Request) body behind size
   parts-back kinds.Response behind size ok = unary f (messageIn kinds.Response) body behind size
   parts-back kinds.Init behind size ok = stream f (messageIn kinds.Init) body behind ok

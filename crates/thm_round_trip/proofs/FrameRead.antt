@@ -7,24 +7,27 @@ use native.Mathlib.Omega.{arith}
 use lib.ListN.{length}
 use Rattle.decoder.specs.Fields.{State, ok, readMessage}
 use Rattle.decoder.specs.Rows.{rowsIn, laidOut}
-use Rattle.message.specs.Records.{schemaOf, recordOf, attachmentSizeOf}
+use Rattle.schema.specs.Kinds.{schemaOf}
+use Rattle.records.specs.Records.{recordOf, attachmentSizeOf}
 use Rattle.message.specs.Frames.{Reading, headerOf, bodyOf, lastBytes, withAttachment, answered, readFrame}
 use Rattle.message.specs.Parts.{Whole}
-use Rattle.message.specs.declared.Kind.{Kind}
-use Rattle.message.specs.declared.Record.{Record}
+use Rattle.schema.specs.declared.Kind.{Kind}
+use Rattle.records.specs.declared.Record.{Record}
 use Rattle.message.specs.declared.Answer.the-variants.{Read}
 use Rattle.decoder.proofs.RowLaws.{rowsIn-flat, laid-split, length-rowsIn}
 use Rattle.message.proofs.Readings.{its-message}
-use Rattle.outgoing.specs.Content.{kindOf, recordId, rowCount, slotsOf}
-use Rattle.writer.specs.Writing.{headerSize, fixedHeader, rowsOf, messageOf, frameOf}
-use Rattle.thm_round_trip.specs.Meaning.{Said, fieldsOf, Pair, pairsOf, InRange, says}
-use Rattle.thm_round_trip.specs.Statement.{ReadsBack}
+use Rattle.records.specs.Content.{kindOf, recordId, rowCount, slotsOf}
+use Rattle.fixed_header.specs.Put.{fixedHeader}
+use Rattle.writer.specs.Writing.{frameTypeOf, headerSize, headerFor, rowsOf, messageOf, frameOf}
+use Rattle.message.specs.Meaning.{Said, fieldsOf, Pair, pairsOf, says}
+use Rattle.thm_round_trip.specs.InRange.{InRange}
+use Rattle.thm_round_trip.specs.ReadsBack.{ReadsBack}
 use Rattle.thm_round_trip.proofs.Said.{MessageBack}
 use Rattle.thm_round_trip.proofs.Formed.{well-formed}
 use Rattle.thm_round_trip.proofs.MessageRead.{message-back}
 use Rattle.thm_round_trip.proofs.FrameBack.{frame-length, behind-header, frame-whole, parts-back}
 use Rattle.thm_round_trip.proofs.RecordBack.{record-said, read-says, attachment-back}
-use Rattle.thm_round_trip.proofs.Accepted.{Accepted, rows-kept, attachment-fits}
+use Rattle.thm_round_trip.proofs.Accepted.{WriteAccepted, rows-kept, attachment-fits}
 
 -- the reading of a state whose attachment fits the body
 abbrev given : Kind → (frame lent : List ℕ) (id : ℕ) (message body : List ℕ) (attachment : ℕ) → State → Reading
@@ -39,7 +42,7 @@ given kind frame lent id message body attachment st =
 
 module _ (r : Record) (source numbers body lent : List ℕ) (id-small : recordId r < 2 ^ 32) (in-range : InRange (fieldsOf source r))
     (long : 256 ≤ length lent)
-    (is : Accepted r source numbers body) where
+    (is : WriteAccepted r source numbers body) where
   abbrev kind : Kind
   kind = kindOf r
 
@@ -53,7 +56,7 @@ module _ (r : Record) (source numbers body lent : List ℕ) (id-small : recordId
   unfolding frameOf
   frame-size = frame-length kind (recordId r) message body
 
-  whole : Whole kind frame (headerSize kind message) (recordId r)
+  whole : Whole kind frame (headerSize (frameTypeOf kind) (length message)) (recordId r)
   unfolding frameOf
   whole = frame-whole kind (recordId r) message body (omega (arith, frame-size, is .small)) id-small
 
@@ -68,7 +71,7 @@ module _ (r : Record) (source numbers body lent : List ℕ) (id-small : recordId
       (slotsOf r) st
   unfolding frameOf fixedHeader
   back =
-      let header = fixedHeader kind (16 + length message + length body) (headerSize kind message) (recordId r) in
+      let header = fixedHeader (headerFor kind (recordId r) message body) in
       message-back frame source header body (rowsOf r numbers) (schemaOf kind) (slotsOf r) refl (well-formed kind)
       (rw (record-said source r in-range) in-range)
       (rw (length-rowsIn (rowCount r) numbers) (is .content .few))

@@ -2,27 +2,29 @@
 use Prim.Native.Nat.{ℕ, _+_}
 use mathlib.Core.Path.{_≡_, refl, sym, _∙_}
 use mathlib.Core.Logic.{_⊎_, inl, inr}
-use mathlib.Core.Bool.{Bool, true, false, true≢false, not, _&&_, _||_}
+use mathlib.Core.Bool.{Bool, true, false, true≢false, not, and-true, _&&_, _||_}
 use mathlib.Core.List.{List, [], _∷_, _++_}
 use borrow.Author.Tests.{eqb-true, eqb-false}
 use lib.Dec.{eqb, leb, leb·zero}
 use lib.ListN.{length, getD}
-use Rattle.decoder.specs.Schema.{Schema, done, number, bytes, map, message, width}
+use Rattle.schema.specs.Schema.{Schema, done, number, bytes, map, message, width}
 use Rattle.decoder.specs.Rows.{Row}
 use Rattle.decoder.specs.Fields.{partOf, sameBytes}
-use Rattle.message.specs.Records.{schemaOf, attachmentSizeOf}
-use Rattle.message.specs.declared.Kind.{Kind}
-use Rattle.message.specs.declared.Kind.the-variants as kinds
-use Rattle.message.specs.declared.Span.{Span}
-use Rattle.message.specs.declared.Record.{Record}
-use Rattle.message.specs.declared.Record.the-variants as records
+use Rattle.schema.specs.Kinds.{schemaOf}
+use Rattle.records.specs.Records.{attachmentSizeOf}
+use Rattle.schema.specs.declared.Kind.{Kind}
+use Rattle.schema.specs.declared.Kind.the-variants as kinds
+use Rattle.records.specs.declared.Span.{Span}
+use Rattle.records.specs.declared.Record.{Record}
+use Rattle.records.specs.declared.Record.the-variants as records
 use Rattle.decoder.proofs.RowLaws.{same-true, same-equal, length-rowsIn}
-use Rattle.outgoing.specs.Content.{kindOf, rowCount, mark, slotsOf}
+use Rattle.records.specs.Content.{kindOf, rowCount, mark, slotsOf}
 use Rattle.writer_checks.specs.Grounds.{spansWithin, rowsWithin, noKey, keysDiffer, allZero, absentOk, bodyOk}
 use Rattle.writer.specs.Writing.{rowsOf}
 use Rattle.refusals.specs.Grounds.{Some}
-use Rattle.refusals.proofs.Tests.{Told, Tests, restated, both, never, at-most}
-use Rattle.thm_round_trip.specs.Refusals.{recordSpans, SpanPast, RowPast, keysOf, ComesAgain, AllZero, AbsentNotZero, requestMetaNumbers, responseMetaNumbers, PartNotZero, hasBody}
+use Rattle.refusals.proofs.Tests.{Told, Tests, restated, both-pass, never, at-most}
+use Rattle.thm_round_trip.specs.Refusals.{recordSpans, SpanPast, RowPast, keysOf, ComesAgain, AllZero}
+use Rattle.thm_round_trip.specs.Refusals.{AbsentNotZero, requestMetaNumbers, responseMetaNumbers, PartNotZero, hasBody}
 
 -- ---- 17
 module _ {A : Type 0} (P : A → Type 0) where
@@ -65,22 +67,23 @@ module _ (source : List ℕ) where
   spans-within done i slots = never
   spans-within (number type n name more) i slots = spans-within more (i + 1) slots
   spans-within (bytes n name more) i slots =
-      both (at-most (getD slots i 0 + getD slots (i + 1) 0) (length source)) (spans-within more (i + 2) slots)
+      both-pass (at-most (getD slots i 0 + getD slots (i + 1) 0) (length source)) (spans-within more (i + 2) slots)
   spans-within (map n name more) i slots = spans-within more i slots
   spans-within (message n name inner more) i slots =
       let first = spansIn inner (i + 1) slots in
       let later = spansIn more (i + 1 + width inner) slots in
       restated (some-join (SpanPast source) first later) (some-split (SpanPast source) first later)
-      (both (spans-within inner (i + 1) slots) (spans-within more (i + 1 + width inner) slots))
+      (both-pass (spans-within inner (i + 1) slots) (spans-within more (i + 1 + width inner) slots))
 
-  pub spans-ok : (r : Record) → Tests (spansWithin (length source) (schemaOf (kindOf r)) 0 (slotsOf r)) (Some (SpanPast source) (recordSpans r))
+  pub spans-ok : (r : Record)
+      → Tests (spansWithin (length source) (schemaOf (kindOf r)) 0 (slotsOf r)) (Some (SpanPast source) (recordSpans r))
   spans-ok r = rw (spans-are r) at (spans-within (schemaOf (kindOf r)) 0 (slotsOf r))
 
   pub rows-ok : (rows : List Row) → Tests (rowsWithin (length source) rows) (Some (RowPast source) rows)
   unfolding rowsWithin
   rows-ok [] = never
   rows-ok (row ∷ rows) =
-      both (both (at-most (row .key + row .keySize) (length source)) (at-most (row .value + row .valueSize) (length source))) (rows-ok rows)
+      both-pass (both-pass (at-most (row .key + row .keySize) (length source)) (at-most (row .value + row .valueSize) (length source))) (rows-ok rows)
 
   -- ---- 18: equal keys
   other-key : (a b : List ℕ) → Tests (not (sameBytes a b)) (a ≡ b)
@@ -93,12 +96,12 @@ module _ (source : List ℕ) where
   no-key : (key : List ℕ) (rows : List Row) → Tests (noKey source key rows) (Some (λ (other : List ℕ). other ≡ key) (keysOf source rows))
   unfolding noKey
   no-key key [] = never
-  no-key key (row ∷ rows) = both (other-key (partOf source (row .key) (row .keySize)) key) (no-key key rows)
+  no-key key (row ∷ rows) = both-pass (other-key (partOf source (row .key) (row .keySize)) key) (no-key key rows)
 
   pub keys-ok : (rows : List Row) → Tests (keysDiffer source rows) (ComesAgain (keysOf source rows))
   unfolding keysDiffer
   keys-ok [] = never
-  keys-ok (row ∷ rows) = both (no-key (partOf source (row .key) (row .keySize)) rows) (keys-ok rows)
+  keys-ok (row ∷ rows) = both-pass (no-key (partOf source (row .key) (row .keySize)) rows) (keys-ok rows)
 
 -- ---- 18: an absent part
 zerosOk : List ℕ → Bool
@@ -119,17 +122,13 @@ absent-ok : (present : Bool) (ns : List ℕ) → Tests (not (eqb (mark present) 
 absent-ok true ns = record { told = λ g. true≢false (g .0) }
 absent-ok false ns = restated (λ k. (refl, k)) (λ g. g .1) (record { told = zeros-ok ns })
 
-and-true : (ok : Bool) → ok && true ≡ ok
-and-true true = refl
-and-true false = refl
-
 pub parts-ok : (r : Record) (numbers : List ℕ) → Tests (absentOk (rowsOf r numbers) (schemaOf (kindOf r)) 0 (slotsOf r)) (PartNotZero r)
 unfolding absentOk allZero kindOf slotsOf rowCount width zerosOk
 parts-ok (records.Request r) numbers = never
 parts-ok (records.Response r) numbers = never
 parts-ok (records.Init r) numbers =
     let second = absent-ok (r .«response_meta» .present) (responseMetaNumbers r) in
-    rw (length-rowsIn (r .rows) numbers) (both (absent-ok (r .«request_meta» .present) (requestMetaNumbers r)) (rw (and-true _) second))
+    rw (length-rowsIn (r .rows) numbers) (both-pass (absent-ok (r .«request_meta» .present) (requestMetaNumbers r)) (rw (and-true _) second))
 parts-ok (records.Data r) numbers = never
 parts-ok (records.Feedback r) numbers = never
 parts-ok (records.Close r) numbers = never

@@ -6,28 +6,29 @@ use mir.Val.{Val}
 use denote.Laws.{Is}
 use denote.Struct.Laws as struct
 use denote.Enum.Laws as enum
-use Rattle.message.proofs.Record as R
-use Rattle.message.proofs.Record.Laws as R′
-use Rattle.message.proofs.Request as Request
-use Rattle.message.proofs.Request.Laws as Request′
-use Rattle.message.proofs.Response as Response
-use Rattle.message.proofs.Response.Laws as Response′
-use Rattle.message.proofs.Init as Init
-use Rattle.message.proofs.Init.Laws as Init′
-use Rattle.message.proofs.RequestMeta as RequestMeta
-use Rattle.message.proofs.RequestMeta.Laws as RequestMeta′
-use Rattle.message.proofs.ResponseMeta as ResponseMeta
-use Rattle.message.proofs.ResponseMeta.Laws as ResponseMeta′
-use Rattle.message.proofs.Data as Data
-use Rattle.message.proofs.Data.Laws as Data′
-use Rattle.message.proofs.Feedback as Feedback
-use Rattle.message.proofs.Feedback.Laws as Feedback′
-use Rattle.message.proofs.Close as Close
-use Rattle.message.proofs.Close.Laws as Close′
-use Rattle.message.specs.declared.Record.{Record}
-use Rattle.message.specs.declared.Record.the-variants as records
-use Rattle.outgoing.specs.Content.{recordId}
-use Rattle.thm_round_trip.specs.Meaning.{fieldsOf, InRange}
+use Rattle.records.proofs.Record as R
+use Rattle.records.proofs.Record.Laws as R′
+use Rattle.records.proofs.Request as Request
+use Rattle.records.proofs.Request.Laws as Request′
+use Rattle.records.proofs.Response as Response
+use Rattle.records.proofs.Response.Laws as Response′
+use Rattle.records.proofs.Init as Init
+use Rattle.records.proofs.Init.Laws as Init′
+use Rattle.records.proofs.RequestMeta as RequestMeta
+use Rattle.records.proofs.RequestMeta.Laws as RequestMeta′
+use Rattle.records.proofs.ResponseMeta as ResponseMeta
+use Rattle.records.proofs.ResponseMeta.Laws as ResponseMeta′
+use Rattle.records.proofs.Data as Data
+use Rattle.records.proofs.Data.Laws as Data′
+use Rattle.records.proofs.Feedback as Feedback
+use Rattle.records.proofs.Feedback.Laws as Feedback′
+use Rattle.records.proofs.Close as Close
+use Rattle.records.proofs.Close.Laws as Close′
+use Rattle.records.specs.declared.Record.{Record}
+use Rattle.records.specs.declared.Record.the-variants as records
+use Rattle.records.specs.Content.{recordId}
+use Rattle.message.specs.Meaning.{fieldsOf}
+use Rattle.thm_round_trip.specs.InRange.{InRange}
 use Rattle.thm_round_trip.specs.Calls.{Held}
 
 -- ---- each field of a struct is held in its turn: `.0` is the field, and `.0 .1` its bound; `.1` are the fields after it

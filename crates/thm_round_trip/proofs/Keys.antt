@@ -1,33 +1,18 @@
--- Rows whose keys differ are entered one behind the other, and whether they differ is seen from their bytes alone.
+-- Rows whose keys differ are entered one after the other, and whether they differ is seen from their bytes only.
 use Prim.Native.Nat.{ℕ, suc}
 use mathlib.Core.Path.{_≡_, refl, sym, ap, ap₂, _∙_}
 use mathlib.Core.Bool.{Bool, true, false, not, _&&_}
 use mathlib.Core.List.{List, [], _∷_, _++_}
 use lib.ListN.{length}
-use lib.Dec.{eqb}
-use borrow.Author.Tests.{eq-eqb, ne-eqb, eqb-true, eqb-false}
+use borrow.Author.Tests.{not-true}
+use Rattle.laws.proofs.Booleans.{both}
+use Rattle.laws.proofs.Tests.{eqb-comm}
 use Rattle.decoder.specs.Rows.{Row}
 use Rattle.decoder.specs.Fields.{sameBytes, enter}
 use Rattle.writer_checks.specs.Grounds.{noKey, keysDiffer}
-use Rattle.thm_round_trip.specs.Meaning.{Pair, pairsOf}
+use Rattle.message.specs.Meaning.{Pair, pairsOf}
+use Rattle.message.proofs.MeaningLaws.{length-pairs}
 use Rattle.thm_round_trip.proofs.Landing.{keyOf}
-
--- ---- tests
-
-pub both : (a b : Bool) → a && b ≡ true → (a ≡ true) × (b ≡ true)
-both true b h = (refl, h)
-both false b h = (h, cc)
-
-negated : (a : Bool) → not a ≡ true → a ≡ false
-negated true h = cc
-negated false h = refl
-
-eqb-comm : (m n : ℕ) → eqb m n ≡ eqb n m
-eqb-comm m n = by (eqb n m) refl
-  where
-    by : (b : Bool) → eqb n m ≡ b → eqb m n ≡ b
-    by true e = eq-eqb m n (sym (eqb-true n m e))
-    by false e = ne-eqb m n (λ (q : m ≡ n). eqb-false n m e (sym q))
 
 same-comm : (a b : List ℕ) → sameBytes a b ≡ sameBytes b a
 unfolding sameBytes
@@ -43,7 +28,7 @@ module _ (source : List ℕ) where
       → sameBytes (keyOf source row) key ≡ false
   unfolding noKey
   no-key key [] row b h =
-      negated (sameBytes (keyOf source row) key) (both (not (sameBytes (keyOf source row) key)) (noKey source key b) h .0)
+      not-true (sameBytes (keyOf source row) key) (both (not (sameBytes (keyOf source row) key)) (noKey source key b) h .0)
   no-key key (x ∷ a) row b h =
       no-key key a row b (both (not (sameBytes (keyOf source x) key)) (noKey source key (a ++ (row ∷ b))) h .1)
 
@@ -71,7 +56,7 @@ module _ (source : List ℕ) where
       same-comm (keyOf source x) (keyOf source row) ∙ no-key (keyOf source x) rows row later (q .0) in
       rw (other, enter-new rows row later (q .1))
 
--- ---- the bytes alone
+-- ---- the bytes only
 abbrev noPair : (key : List ℕ) → List Pair → Bool
 noPair key [] = true
 noPair key (p ∷ ps) = not (sameBytes (p .key .content) key) && noPair key ps
@@ -89,14 +74,6 @@ differ-pairs : (source : List ℕ) (rows : List Row) → keysDiffer source rows 
 unfolding keysDiffer
 differ-pairs source [] = refl
 differ-pairs source (row ∷ rows) = rw (noKey-pairs source (keyOf source row) rows, differ-pairs source rows)
-
-length-pairs : (source : List ℕ) (rows : List Row) → length (pairsOf source rows) ≡ length rows
-length-pairs source [] = refl
-length-pairs source (row ∷ rows) = ap suc (length-pairs source rows)
-
-pub pairs-append : (source : List ℕ) (a b : List Row) → pairsOf source (a ++ b) ≡ pairsOf source a ++ pairsOf source b
-pairs-append source [] b = refl
-pairs-append source (x ∷ a) b = rw (pairs-append source a b)
 
 module _ (frame source : List ℕ) (a b : List Row) (same : pairsOf frame a ≡ pairsOf source b) where
   pub same-count : length a ≡ length b

@@ -1,4 +1,4 @@
--- Where the reader finds what was written: the slots and the rows that the fields give, the first of them standing at `at` of the frame.
+-- Where the reader finds what was written: the slots and the rows that the fields give, the first of them at `at` of the frame.
 use Prim.Native.Nat.{ℕ, suc, _+_}
 use mathlib.Core.Path.{_≡_, refl, sym, ap, ap₂, _∙_}
 use mathlib.Core.Bool.{Bool, true, false, cond}
@@ -9,7 +9,7 @@ use lib.Dec.{eqb}
 use native.Mathlib.Omega.{arith}
 use Rattle.wire_read.specs.Varint.{lowU32}
 use Rattle.wire_write.specs.Writing.{putBytes}
-use Rattle.decoder.specs.Schema.{Integer, uint32, int32, Schema, done, number, bytes, map, message, width}
+use Rattle.schema.specs.Schema.{Integer, uint32, int32, Schema, done, number, bytes, map, message, width}
 use Rattle.decoder.specs.Rows.{Row}
 use Rattle.decoder.specs.Fields.{startOf, partOf}
 use Rattle.writer.specs.Encoding.{putNumber, putSome, putEntry, putRows, putFields}
@@ -31,7 +31,7 @@ keyOf source row = partOf source (row .key) (row .keySize)
 abbrev pub valueOf : (source : List ℕ) → Row → List ℕ
 valueOf source row = partOf source (row .value) (row .valueSize)
 
--- the row of an entry whose bytes stand at `at`
+-- the row of an entry whose bytes are at `at`
 abbrev pub entryRow : (at : ℕ) → (key value : List ℕ) → Row
 entryRow at key value =
     record {
@@ -108,7 +108,7 @@ module _ (source : List ℕ) (rows : List Row) (slots : List ℕ) where
       let inside = at + headSize n (put inner (i + 1)) in
       length-either (eqb (getD slots i 0) 0) (width inner) (slotsAt inner (i + 1) inside) (length-slots inner (i + 1) inside)
 
--- ---- bytes that stand in the frame
+-- ---- bytes that are in the frame
 
 abbrev pub Stands : (frame : List ℕ) (at : ℕ) → List ℕ → Type 0
 Stands frame at x = partOf frame at (length x) ≡ x

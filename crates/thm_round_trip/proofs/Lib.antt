@@ -1,8 +1,10 @@
--- The theorems of demand 2: what is written reads back, and when nothing is written
+-- The theorems of demand 2: what is written reads back, when nothing is written, and that what is read lies within the frame
 pub mod RoundTrip
 pub mod Exactly
+pub mod ReadWithin
 -- The same of the functions themselves, and that what they take a call to ensure is what the contract says
-pub mod Called
+pub mod CalledBack
+pub mod CalledWithin
 pub mod Contracts
 -- The laws under them: a message by its schema, then the frame and the record
 mod Said
@@ -20,3 +22,4 @@ mod Accepted
 mod Held
 mod FrameRead
 mod GroundTests
+mod SpansKept

@@ -1,4 +1,4 @@
--- What is written for a schema, wherever it stands in a frame, is read as a message that says the same: the same numbers, present marks,
+-- What is written for a schema, wherever it is in a frame, is read as a message that says the same: the same numbers, present marks,
 -- lengths and bytes, and the rows in their order with the same keys and values. It is no statement about the fixed header, nor about bytes
 -- that were not written so.
 -- Ruled out: a writer that writes the rows of a map in another order, and a reader that takes the start of a byte field from the start of
@@ -10,13 +10,13 @@ use mathlib.Core.List.{List, [], _++_, append-assoc, append-nil}
 use lib.ListN.{length, take, drop, replicate-append-replicate}
 use lib.Seq.{take-append-seam, drop-append-seam}
 use native.Mathlib.Omega.{arith}
-use Rattle.decoder.specs.Schema.{Schema, width}
+use Rattle.schema.specs.Schema.{Schema, width}
 use Rattle.decoder.specs.Rows.{Row}
 use Rattle.decoder.specs.Fields.{State, ok, fieldsIn, readMessage}
 use Rattle.writer.specs.Encoding.{putFields}
 use Rattle.writer_checks.specs.Grounds.{spansWithin, rowsWithin, keysDiffer, absentOk}
-use Rattle.thm_round_trip.specs.Meaning.{InRange}
-use Rattle.thm_round_trip.proofs.Said.{saidIn, hasRows, kept, MessageBack}
+use Rattle.thm_round_trip.specs.InRange.{InRange}
+use Rattle.thm_round_trip.proofs.Said.{saidIn, hasRows, keptRows, MessageBack}
 use Rattle.thm_round_trip.proofs.Formed.{WellFormed}
 use Rattle.thm_round_trip.proofs.Landing.{zeros, slotsAt, entriesAt, Stands}
 use Rattle.thm_round_trip.proofs.Keys.{same-count, same-differ}
@@ -32,16 +32,16 @@ stands before x rest =
 
 -- the rows that are kept are all or none
 module _ (source : List ℕ) (rows : List Row) (sch : Schema) where
-  kept-few : length rows ≤ 64 → length (kept sch rows) ≤ 64
-  unfolding kept
+  kept-few : length rows ≤ 64 → length (keptRows sch rows) ≤ 64
+  unfolding keptRows
   kept-few h = by (hasRows sch)
     where
       by : (b : Bool) → length (cond b rows []) ≤ 64
       by true = h
       by false = omega arith
 
-  kept-differ : keysDiffer source rows ≡ true → keysDiffer source (kept sch rows) ≡ true
-  unfolding kept keysDiffer
+  kept-differ : keysDiffer source rows ≡ true → keysDiffer source (keptRows sch rows) ≡ true
+  unfolding keptRows keysDiffer
   kept-differ h = by (hasRows sch)
     where
       by : (b : Bool) → keysDiffer source (cond b rows []) ≡ true
@@ -64,8 +64,8 @@ message-back frame source before rest rows sch slots is-frame formed fits few sp
     let here : Stands frame at w = rw is-frame (stands before w rest) in
     let back = schema-back frame source rows slots in-rows sch 0 (formed .0) 0 at spans absent here in
     let read-rows = entriesAt source rows slots sch 0 at in
-    let count = same-count frame source read-rows (kept sch rows) (back .rows-are) in
-    let unlike = same-differ frame source read-rows (kept sch rows) (back .rows-are) ∙ kept-differ source rows sch differ in
+    let count = same-count frame source read-rows (keptRows sch rows) (back .rows-are) in
+    let unlike = same-differ frame source read-rows (keptRows sch rows) (back .rows-are) ∙ kept-differ source rows sch differ in
     let spare = zeros (16 - width sch) in
     let all : width sch + (16 - width sch) ≡ 16 = let h = formed .1 in omega arith in
     let blanks : zeros (width sch) ++ spare ≡ zeros 16 = replicate-append-replicate {A = ℕ} (width sch) (16 - width sch) 0 ∙ ap zeros all in

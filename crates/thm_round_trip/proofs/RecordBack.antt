@@ -1,34 +1,26 @@
 -- A record says what its slots say by its schema, the record that was given and the one that is made of slots that were read
-use Prim.Native.Nat.{ℕ, _%_, _^_, _<_}
+use Prim.Native.Nat.{ℕ}
 use mathlib.Core.Path.{_≡_, refl, sym, ap, _∙_}
 use mathlib.Core.Bool.{Bool, true, false, not}
 use mathlib.Core.List.{List}
-use native.Mathlib.Omega.{arith}
 use lib.Dec.{eqb}
-use lib.IntN.{ℤ}
-use lib.Signed.{mag}
 use lib.ListN.{getD}
-use Rattle.wire_read.specs.Varint.{twosComplement, lowI32}
-use Rattle.wire_write.specs.Writing.{signExtended}
-use Rattle.wire_write.proofs.ReadBack.{signed-back}
-use Rattle.decoder.specs.Schema.{width}
-use Rattle.message.specs.Records.{schemaOf, recordOf, attachmentSizeOf}
+use Rattle.wire_write.proofs.ReadBack.{signed-bits}
+use Rattle.schema.specs.Schema.{width}
+use Rattle.schema.specs.Kinds.{schemaOf}
+use Rattle.records.specs.Records.{recordOf, attachmentSizeOf}
 use Rattle.decoder.specs.Rows.{rowsIn}
-use Rattle.message.specs.declared.Kind.{Kind}
-use Rattle.message.specs.declared.Kind.the-variants as kinds
-use Rattle.message.specs.declared.Record.{Record}
-use Rattle.message.specs.declared.Record.the-variants.{Request, Response, Init, Data, Feedback, Close}
+use Rattle.schema.specs.declared.Kind.{Kind}
+use Rattle.schema.specs.declared.Kind.the-variants as kinds
+use Rattle.records.specs.declared.Record.{Record}
+use Rattle.records.specs.declared.Record.the-variants.{Request, Response, Init, Data, Feedback, Close}
 use Rattle.message.specs.declared.Answer.the-variants.{Read}
-use Rattle.outgoing.specs.Content.{kindOf, recordId, rowCount, bits, mark, slotsOf}
-use Rattle.thm_round_trip.specs.Meaning.{Said, unsigned, signed, present, text, fieldsOf, InRange, pairsOf, says, answerMeaning}
+use Rattle.records.specs.Content.{kindOf, recordId, rowCount, mark, slotsOf}
+use Rattle.message.specs.Meaning.{Said, unsigned, signed, present, text, fieldsOf, pairsOf, says, answerMeaning}
+use Rattle.thm_round_trip.specs.InRange.{InRange}
 use Rattle.thm_round_trip.proofs.Said.{saidIn}
 
--- an int32 is what its 32 bits say, and a mark what its slot says
-signed-bits : (z : ℤ) → mag z < 2 ^ 31 → lowI32 (bits z) ≡ z
-signed-bits z h =
-    let low : signExtended z % 2 ^ 32 % 2 ^ 32 ≡ signExtended z % 2 ^ 32 = omega arith in
-    ap twosComplement low ∙ signed-back z h
-
+-- a mark is what its slot says
 mark-said : (b : Bool) → not (eqb (mark b) 0) ≡ b
 mark-said true = refl
 mark-said false = refl
@@ -58,22 +50,22 @@ read-says kinds.Feedback f id slots count numbers = refl
 read-says kinds.Close f id slots count numbers = refl
 
 -- ---- the attachment size, as one of the fields
-numberOf : Said → ℕ
-numberOf (unsigned n) = n
-numberOf (signed z) = 0
-numberOf (present b) = 0
-numberOf (text x) = 0
+unsignedIn : Said → ℕ
+unsignedIn (unsigned n) = n
+unsignedIn (signed z) = 0
+unsignedIn (present b) = 0
+unsignedIn (text x) = 0
 
 attachmentIn : Kind → List Said → ℕ
-attachmentIn kinds.Request said = numberOf (getD said 10 (unsigned 0))
-attachmentIn kinds.Response said = numberOf (getD said 9 (unsigned 0))
+attachmentIn kinds.Request said = unsignedIn (getD said 10 (unsigned 0))
+attachmentIn kinds.Response said = unsignedIn (getD said 9 (unsigned 0))
 attachmentIn kinds.Init said = 0
 attachmentIn kinds.Data said = 0
 attachmentIn kinds.Feedback said = 0
 attachmentIn kinds.Close said = 0
 
 attachment-said : (kind : Kind) (f slots : List ℕ) → attachmentSizeOf kind slots ≡ attachmentIn kind (saidIn f (schemaOf kind) 0 slots)
-unfolding attachmentSizeOf attachmentIn saidIn numberOf
+unfolding attachmentSizeOf attachmentIn saidIn unsignedIn
 attachment-said kinds.Request f slots = refl
 attachment-said kinds.Response f slots = refl
 attachment-said kinds.Init f slots = refl

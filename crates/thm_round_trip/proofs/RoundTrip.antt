@@ -1,4 +1,5 @@
--- The round trip (demand 2), on the definitions that the contracts of `write` and `read` name; `Called` has the functions.
+-- For a user: the round trip (demand 2), on the definitions that the contracts of `write` and `read` name; `CalledBack` has the functions.
+--
 -- Promised, for every record that the writer accepts, any source bytes, row numbers and output, of whatever size, and 256 row numbers or
 -- more lent to the reader: asked for the record's kind, the reader gives from the frame the same record with the same bytes. That is kind,
 -- id, each number, each present mark, the length and the bytes of each byte field, the rows in their order with those of their keys and
@@ -11,14 +12,15 @@ use Prim.Native.Nat.{ℕ, _^_, _<_, _≤_}
 use mathlib.Core.Path.{_≡_}
 use mathlib.Core.List.{List}
 use lib.ListN.{length, take}
-use Rattle.message.specs.declared.Record.{Record}
-use Rattle.outgoing.specs.Content.{recordId}
+use Rattle.records.specs.declared.Record.{Record}
+use Rattle.records.specs.Content.{recordId}
 use Rattle.writer.specs.Writing.{frameOf, writeError, written}
 use Rattle.writer.specs.declared.Encoded.the-variants.{Frame}
-use Rattle.thm_round_trip.specs.Meaning.{fieldsOf, InRange}
-use Rattle.thm_round_trip.specs.Statement.{ReadsBack}
+use Rattle.message.specs.Meaning.{fieldsOf}
+use Rattle.thm_round_trip.specs.InRange.{InRange}
+use Rattle.thm_round_trip.specs.ReadsBack.{ReadsBack}
 use Rattle.thm_round_trip.proofs.FrameRead.{reads-back}
-use Rattle.thm_round_trip.proofs.Accepted.{accepted, done}
+use Rattle.thm_round_trip.proofs.Accepted.{write-accepted, done}
 
 pub round-trip : (r : Record) (source numbers body output lent : List ℕ) (size : ℕ)
     → recordId r < 2 ^ 32 → InRange (fieldsOf source r) → 256 ≤ length lent
@@ -27,4 +29,4 @@ pub round-trip : (r : Record) (source numbers body output lent : List ℕ) (size
 round-trip r source numbers body output lent size id-small in-range long e =
     let d = done (frameOf r source numbers body) output (writeError r source numbers body (length output)) size e in
     rw (d .frame-is)
-    (reads-back r source numbers body lent id-small in-range long (accepted r source numbers body (length output) (d .no-error)))
+    (reads-back r source numbers body lent id-small in-range long (write-accepted r source numbers body (length output) (d .no-error)))

@@ -6,10 +6,10 @@ use mathlib.Core.List.{List, [], _∷_, _++_}
 use lib.ListN.{getD}
 use lib.Dec.{eqb}
 use Rattle.wire_read.specs.Varint.{lowI32}
-use Rattle.decoder.specs.Schema.{Schema, uint32, int32, done, number, bytes, map, message, width}
+use Rattle.schema.specs.Schema.{Schema, uint32, int32, done, number, bytes, map, message, width}
 use Rattle.decoder.specs.Rows.{Row}
 use Rattle.decoder.specs.Fields.{State}
-use Rattle.thm_round_trip.specs.Meaning.{bytesFrom, Said, unsigned, signed, present, text, pairsOf}
+use Rattle.message.specs.Meaning.{bytesFrom, Said, unsigned, signed, present, text, pairsOf}
 
 -- the fields of the schema, its first slot being i
 unfoldable pub saidIn : (source : List ℕ) → Schema → (i : ℕ) → (slots : List ℕ) → List Said
@@ -30,10 +30,10 @@ hasRows (map n name more) = true
 hasRows (message n name inner more) = hasRows inner || hasRows more
 
 -- the rows that a schema writes: those of its map, where it has one
-unfoldable pub kept : Schema → List Row → List Row
-kept sch rows = cond (hasRows sch) rows []
+unfoldable pub keptRows : Schema → List Row → List Row
+keptRows sch rows = cond (hasRows sch) rows []
 
 -- The state that was read from the frame says what the slots and the rows say over `source`.
 pub record MessageBack (frame source : List ℕ) (rows : List Row) (sch : Schema) (slots : List ℕ) (st : State) : Type 0 where
   pub fields-are : saidIn frame sch 0 (st .slots) ≡ saidIn source sch 0 slots
-  pub rows-are : pairsOf frame (st .rows) ≡ pairsOf source (kept sch rows)
+  pub rows-are : pairsOf frame (st .rows) ≡ pairsOf source (keptRows sch rows)

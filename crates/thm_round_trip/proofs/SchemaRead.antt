@@ -12,12 +12,14 @@ use native.Mathlib.Omega.{arith}
 use native.Mathlib.Nat.{add-zero}
 use borrow.Author.Tests.{eq-eqb, ne-eqb, eqb-true}
 use Rattle.wire_write.specs.Writing.{putBytes}
-use Rattle.decoder.specs.Schema.{Integer, uint32, int32, Schema, done, number, bytes, map, message, width}
+use Rattle.schema.specs.Schema.{Integer, uint32, int32, Schema, done, number, bytes, map, message, width}
 use Rattle.decoder.specs.Rows.{Row}
-use Rattle.decoder.specs.Fields.{State, Target, aNumber, someBytes, anEntry, aMessage, look, setSlot, startOf, withField, fieldsIn}
+use Rattle.decoder.specs.Fields.{State, setSlot, startOf, withField, fieldsIn}
+use Rattle.schema.specs.Targets.{Target, aNumber, someBytes, anEntry, aMessage, look}
 use Rattle.writer.specs.Encoding.{putNumber, putSome, putRows, putFields}
 use Rattle.writer_checks.specs.Grounds.{keysDiffer}
-use Rattle.thm_round_trip.specs.Meaning.{Said, unsigned, signed, present, text, InRange}
+use Rattle.message.specs.Meaning.{Said, unsigned, signed, present, text}
+use Rattle.thm_round_trip.specs.InRange.{InRange}
 use Rattle.thm_round_trip.proofs.Said.{saidIn}
 use Rattle.thm_round_trip.proofs.Formed.{Formed}
 use Rattle.thm_round_trip.proofs.Written.{reads, headSize, length-bytes, bytes-step}
@@ -70,9 +72,9 @@ module _ (frame source : List ℕ) (rows : List Row) (slots : List ℕ) where
   abbrev entries : Schema → (i at : ℕ) → List Row
   entries sch i at = entriesAt source rows slots sch i at
 
-  -- What is written of the slots from i on is read, whatever follows it, into the slots from j on, which were zeros, and behind the rows t.
-  abbrev Reads : Schema → Type 0
-  Reads sch =
+  -- What is written of the slots from i on is read, whatever follows it, into the slots from j on, which were zeros, and after the rows t.
+  abbrev SchemaReads : Schema → Type 0
+  SchemaReads sch =
       (whole : Schema) (k m : ℕ) → Formed m sch
       → (p : List ℕ) (j : ℕ) → length p ≡ j → Agree whole k sch j m
       → (i at : ℕ) → InRange (saidIn source sch i slots)
@@ -82,8 +84,8 @@ module _ (frame source : List ℕ) (rows : List Row) (slots : List ℕ) where
       ≡ reads frame whole k (at + length (written sch i)) rest
       (state (p ++ (landed sch i at ++ q)) (t ++ entries sch i at) (e + length (entries sch i at)))
 
-  -- behind a first field x, which gave the slots `own` and the rows `new`
-  module _ (whole : Schema) (k n : ℕ) (more : Schema) (go : Reads more) (up : Formed n more) (p own : List ℕ) (j : ℕ)
+  -- after a first field x, which gave the slots `own` and the rows `new`
+  module _ (whole : Schema) (k n : ℕ) (more : Schema) (go : SchemaReads more) (up : Formed n more) (p own : List ℕ) (j : ℕ)
       (next : length p + length own ≡ j) (agree : Agree whole k more j n) (i at : ℕ)
       (fits : InRange (saidIn source more i slots)) (x q rest : List ℕ) (before : State) (t new : List Row) (e : ℕ) where
     abbrev later : List Row
@@ -115,7 +117,7 @@ module _ (frame source : List ℕ) (rows : List Row) (slots : List ℕ) where
         ) at rest-read)
 
   -- ---- a part
-  module _ (whole : Schema) (k n : ℕ) (some : 0 < n) (high : n < 2 ^ 29) (inner : Schema) (go : Reads inner) (up : Formed 0 inner)
+  module _ (whole : Schema) (k n : ℕ) (some : 0 < n) (high : n < 2 ^ 29) (inner : Schema) (go : SchemaReads inner) (up : Formed 0 inner)
       (p : List ℕ) (j : ℕ) (is-j : length p ≡ j) (l : look whole k n ≡ aMessage j inner) (i at : ℕ)
       (fits : InRange (saidIn source inner (i + 1) slots)) (q rest : List ℕ) (t : List Row) (e : ℕ) where
     abbrev x : List ℕ
@@ -156,11 +158,11 @@ module _ (frame source : List ℕ) (rows : List Row) (slots : List ℕ) where
     part-read false small few differ = present-read small few differ
 
   -- ---- each constructor
-  read-done : Reads done
+  read-done : SchemaReads done
   unfolding putFields width slotsAt entriesAt
   read-done whole k m up p j is-j agree i at fits q rest t e small few differ = rw (add-zero at, append-nil t, add-zero e)
 
-  read-number : (type : Integer) (n : ℕ) (name : String) (more : Schema) → Reads more → Reads (number type n name more)
+  read-number : (type : Integer) (n : ℕ) (name : String) (more : Schema) → SchemaReads more → SchemaReads (number type n name more)
   unfolding putFields width slotsAt entriesAt look
   read-number type n name more go whole k m up p j is-j agree i at fits q rest t e small few differ =
       let v = getD slots i 0 in
@@ -174,7 +176,7 @@ module _ (frame source : List ℕ) (rows : List Row) (slots : List ℕ) where
       (number .0) is-j
       (found whole k m n (up .0 .0) (aNumber j) more (j + 1) agree)))
 
-  read-bytes : (n : ℕ) (name : String) (more : Schema) → Reads more → Reads (bytes n name more)
+  read-bytes : (n : ℕ) (name : String) (more : Schema) → SchemaReads more → SchemaReads (bytes n name more)
   unfolding putFields width slotsAt entriesAt look saidIn
   read-bytes n name more go whole k m up p j is-j agree i at fits q rest t e small few differ =
       let text = textAt source rows slots i in
@@ -188,7 +190,7 @@ module _ (frame source : List ℕ) (rows : List Row) (slots : List ℕ) where
       (omega (arith, some-long n text, length-append x (written more (i + 2)))) is-j
       (found whole k m n (up .0 .0) (someBytes j) more (j + 2) agree)))
 
-  read-map : (n : ℕ) (name : String) (more : Schema) → Reads more → Reads (map n name more)
+  read-map : (n : ℕ) (name : String) (more : Schema) → SchemaReads more → SchemaReads (map n name more)
   unfolding putFields width slotsAt entriesAt look saidIn
   read-map n name more go whole k m up p j is-j agree i at fits q rest t e small few differ =
       let x = putRows source n rows in
@@ -201,7 +203,8 @@ module _ (frame source : List ℕ) (rows : List Row) (slots : List ℕ) where
       (written more i ++ rest) _ t e later
       (omega (arith, length-append x (written more i))) (omega (arith, length-append new later)) differ)
 
-  read-message : (n : ℕ) (name : String) (inner more : Schema) → Reads inner → Reads more → Reads (message n name inner more)
+  read-message : (n : ℕ) (name : String) (inner more : Schema) → SchemaReads inner → SchemaReads more
+      → SchemaReads (message n name inner more)
   unfolding putFields width slotsAt entriesAt look saidIn
   read-message n name inner more go-in go whole k m up p j is-j agree i at fits q rest t e small few differ =
       let b = eqb (getD slots i 0) 0 in
@@ -227,7 +230,7 @@ module _ (frame source : List ℕ) (rows : List Row) (slots : List ℕ) where
       (others whole k m n (up .0 .0) target more (j + 1 + width inner) agree) (i + 1 + width inner) at (both-fit .1) x q rest _ t new e
       small few differ first)
 
-  pub schema-read : (sch : Schema) → Reads sch
+  pub schema-read : (sch : Schema) → SchemaReads sch
   schema-read done = read-done
   schema-read (number type n name more) = read-number type n name more (schema-read more)
   schema-read (bytes n name more) = read-bytes n name more (schema-read more)

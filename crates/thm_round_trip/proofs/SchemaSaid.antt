@@ -1,4 +1,4 @@
--- What stands where `Landing` says is what was to be written: the same numbers, present marks, lengths and bytes, and the same keys and
+-- What is where `Landing` says is what was to be written: the same numbers, present marks, lengths and bytes, and the same keys and
 -- values in the same order.
 use Prim.Native.Nat.{ℕ, suc, _+_, _≤_, _%_, _^_}
 use Prim.Native.String.{String}
@@ -12,18 +12,19 @@ use native.Mathlib.Omega.{arith}
 use borrow.Author.Tests.{ne-eqb, eqb-true, leb-true}
 use Rattle.wire_read.specs.Varint.{twosComplement, lowI32}
 use Rattle.wire_write.specs.Writing.{putVarint, putTag, putBytes}
-use Rattle.decoder.specs.Schema.{Integer, uint32, int32, Schema, done, number, bytes, map, message, width}
+use Rattle.schema.specs.Schema.{Integer, uint32, int32, Schema, done, number, bytes, map, message, width}
 use Rattle.decoder.specs.Rows.{Row}
 use Rattle.decoder.specs.Fields.{startOf, partOf}
 use Rattle.writer.specs.Encoding.{putNumber, putSome, putEntry, putRows, putFields}
 use Rattle.writer_checks.specs.Grounds.{spansWithin, rowsWithin, allZero, absentOk}
-use Rattle.thm_round_trip.specs.Meaning.{Bytes, bytesFrom, Said, unsigned, signed, text, Pair, pairsOf}
-use Rattle.thm_round_trip.proofs.Said.{saidIn, hasRows, kept}
+use Rattle.message.specs.Meaning.{Bytes, bytesFrom, Said, unsigned, signed, text, Pair, pairsOf}
+use Rattle.thm_round_trip.proofs.Said.{saidIn, hasRows, keptRows}
 use Rattle.thm_round_trip.proofs.Formed.{hasParts, Formed}
 use Rattle.thm_round_trip.proofs.Written.{headSize}
-use Rattle.thm_round_trip.proofs.Landing.{zeros, numberAt, keyOf, valueOf, rowsAt, put, putPart, textAt, slotsAt, entriesAt, partSlots}
-use Rattle.thm_round_trip.proofs.Landing.{partEntries, length-part, Stands, stands-first, stands-later}
-use Rattle.thm_round_trip.proofs.Keys.{both, pairs-append}
+use Rattle.thm_round_trip.proofs.Landing.{zeros, numberAt, keyOf, valueOf, rowsAt, put, putPart, textAt, slotsAt, entriesAt}
+use Rattle.thm_round_trip.proofs.Landing.{partSlots, partEntries, length-part, Stands, stands-first, stands-later}
+use Rattle.laws.proofs.Booleans.{both}
+use Rattle.message.proofs.MeaningLaws.{pairs-append}
 
 -- ---- bytes
 module _ (frame : List ℕ) where
@@ -98,11 +99,12 @@ module _ (frame source : List ℕ) (rows : List Row) (slots : List ℕ) where
   entries sch i at = entriesAt source rows slots sch i at
 
   -- the slots `own`, wherever they are, say over the frame what the fields say from slot i on
-  abbrev Says : Schema → (i : ℕ) → (own : List ℕ) → Type 0
-  Says sch i own = (p q : List ℕ) (j : ℕ) → length p ≡ j → saidIn frame sch j (p ++ (own ++ q)) ≡ saidIn source sch i slots
+  abbrev SchemaSays : Schema → (i : ℕ) → (own : List ℕ) → Type 0
+  SchemaSays sch i own = (p q : List ℕ) (j : ℕ) → length p ≡ j → saidIn frame sch j (p ++ (own ++ q)) ≡ saidIn source sch i slots
 
   number-says : (type : Integer) (n : ℕ) (name : String) (more : Schema) (i v : ℕ) (own : List ℕ)
-      → numberSaid type v ≡ numberSaid type (getD slots i 0) → Says more (i + 1) own → Says (number type n name more) i (v ∷ own)
+      → numberSaid type v ≡ numberSaid type (getD slots i 0) → SchemaSays more (i + 1) own
+      → SchemaSays (number type n name more) i (v ∷ own)
   unfolding saidIn
   number-says type n name more i v own same go p q j is-j = by type same
     where
@@ -120,8 +122,8 @@ module _ (frame source : List ℕ) (rows : List Row) (slots : List ℕ) where
       by int32 e = rw (here, e, later)
 
   bytes-says : (n : ℕ) (name : String) (more : Schema) (i a size : ℕ) (own : List ℕ)
-      → bytesFrom frame a size ≡ bytesFrom source (getD slots i 0) (getD slots (i + 1) 0) → Says more (i + 2) own
-      → Says (bytes n name more) i (a ∷ size ∷ own)
+      → bytesFrom frame a size ≡ bytesFrom source (getD slots i 0) (getD slots (i + 1) 0) → SchemaSays more (i + 2) own
+      → SchemaSays (bytes n name more) i (a ∷ size ∷ own)
   unfolding saidIn
   bytes-says n name more i a size own is-text go p q j is-j =
       let next : length (p ++ (a ∷ [])) ≡ j + 1 = length-append p (a ∷ []) ∙ omega arith in
@@ -135,7 +137,8 @@ module _ (frame source : List ℕ) (rows : List Row) (slots : List ℕ) where
 
   message-says : (n : ℕ) (name : String) (inner more : Schema) (i mark : ℕ) (in-own own : List ℕ)
       → eqb mark 0 ≡ eqb (getD slots i 0) 0 → length in-own ≡ width inner
-      → Says inner (i + 1) in-own → Says more (i + 1 + width inner) own → Says (message n name inner more) i (mark ∷ (in-own ++ own))
+      → SchemaSays inner (i + 1) in-own → SchemaSays more (i + 1 + width inner) own
+      → SchemaSays (message n name inner more) i (mark ∷ (in-own ++ own))
   unfolding saidIn
   message-says n name inner more i mark in-own own is-mark size go-in go p q j is-j =
       let l = p ++ (mark ∷ ((in-own ++ own) ++ q)) in
@@ -151,7 +154,7 @@ module _ (frame source : List ℕ) (rows : List Row) (slots : List ℕ) where
       rw (here, is-mark, first, later)
 
   -- ---- an absent part: zeros say what is all zero, empty and rowless
-  zeros-say : (sch : Schema) (i : ℕ) → allZero rows sch i slots ≡ true → Says sch i (zeros (width sch))
+  zeros-say : (sch : Schema) (i : ℕ) → allZero rows sch i slots ≡ true → SchemaSays sch i (zeros (width sch))
   unfolding allZero width saidIn
   zeros-say done i h = λ p q j is-j. refl
   zeros-say (number type n name more) i h =
@@ -168,8 +171,8 @@ module _ (frame source : List ℕ) (rows : List Row) (slots : List ℕ) where
       (message-says n name inner more i 0 (zeros (width inner)) (zeros (width more)) (sym (c .0)) (length-replicate {A = ℕ} (width inner) 0)
       (zeros-say inner (i + 1) (c .1)) (zeros-say more (i + 1 + width inner) (b .1)))
 
-  zero-kept : (sch : Schema) (i : ℕ) → allZero rows sch i slots ≡ true → kept sch rows ≡ []
-  unfolding allZero kept hasRows
+  zero-kept : (sch : Schema) (i : ℕ) → allZero rows sch i slots ≡ true → keptRows sch rows ≡ []
+  unfolding allZero keptRows hasRows
   zero-kept done i h = refl
   zero-kept (number type n name more) i h = zero-kept more (i + 1) (both (eqb (getD slots i 0) 0) (allZero rows more (i + 1) slots) h .1)
   zero-kept (bytes n name more) i h = zero-kept more (i + 2) (both (eqb (getD slots (i + 1) 0) 0) (allZero rows more (i + 2) slots) h .1)
@@ -198,8 +201,8 @@ module _ (frame source : List ℕ) (rows : List Row) (slots : List ℕ) where
 
   -- what the reader found for a schema
   pub record Back (sch : Schema) (i at : ℕ) : Type 0 where
-    pub says : Says sch i (landed sch i at)
-    pub rows-are : pairsOf frame (entries sch i at) ≡ pairsOf source (kept sch rows)
+    pub says : SchemaSays sch i (landed sch i at)
+    pub rows-are : pairsOf frame (entries sch i at) ≡ pairsOf source (keptRows sch rows)
 
   -- a part, absent or not
   part-back : (n : ℕ) (inner : Schema) (i at : ℕ)
@@ -207,16 +210,16 @@ module _ (frame source : List ℕ) (rows : List Row) (slots : List ℕ) where
       let inside = at + headSize n x in
       (Stands frame inside x → Back inner (i + 1) inside)
       → (b : Bool) → not b || allZero rows inner (i + 1) slots ≡ true → Stands frame at (cond b [] (putBytes n x))
-      → Says inner (i + 1) (cond b (zeros (width inner)) (landed inner (i + 1) inside))
-      × (pairsOf frame (cond b [] (entries inner (i + 1) inside)) ≡ pairsOf source (kept inner rows))
+      → SchemaSays inner (i + 1) (cond b (zeros (width inner)) (landed inner (i + 1) inside))
+      × (pairsOf frame (cond b [] (entries inner (i + 1) inside)) ≡ pairsOf source (keptRows inner rows))
       × (eqb (cond b 0 1) 0 ≡ b)
   part-back n inner i at go true h here = (zeros-say inner (i + 1) h, rw (zero-kept inner (i + 1) h), refl)
   part-back n inner i at go false h here =
       let r = go (content-stands frame at n (written inner (i + 1)) here) in (r .says, r .rows-are, refl)
 
   kept-both : (n : ℕ) (name : String) (inner more : Schema) → hasRows inner && hasRows more ≡ false
-      → kept inner rows ++ kept more rows ≡ kept (message n name inner more) rows
-  unfolding kept hasRows
+      → keptRows inner rows ++ keptRows more rows ≡ keptRows (message n name inner more) rows
+  unfolding keptRows hasRows
   kept-both n name inner more h = by (hasRows inner) (hasRows more) h
     where
       by : (a b : Bool) → a && b ≡ false → cond a rows [] ++ cond b rows [] ≡ cond (a || b) rows []
@@ -227,7 +230,7 @@ module _ (frame source : List ℕ) (rows : List Row) (slots : List ℕ) where
   pub schema-back : rowsWithin (length source) rows ≡ true → (sch : Schema) (m : ℕ) → Formed m sch → (i at : ℕ)
       → spansWithin (length source) sch i slots ≡ true → absentOk rows sch i slots ≡ true
       → Stands frame at (written sch i) → Back sch i at
-  unfolding putFields slotsAt entriesAt spansWithin absentOk kept hasRows saidIn
+  unfolding putFields slotsAt entriesAt spansWithin absentOk keptRows hasRows saidIn
   schema-back in-rows done m up i at ins ok here = record { says = λ p q j is-j. refl; rows-are = refl }
   schema-back in-rows (number type n name more) m up i at ins ok here =
       let v = getD slots i 0 in
@@ -255,7 +258,7 @@ module _ (frame source : List ℕ) (rows : List Row) (slots : List ℕ) where
       let x = putRows source n rows in
       let y = written more i in
       let later = schema-back in-rows more n (up .1) i (at + length x) ins ok (stands-later frame at x y here) in
-      let none : kept more rows ≡ [] = rw (up .2) in
+      let none : keptRows more rows ≡ [] = rw (up .2) in
       record {
         says = later .says;
         rows-are =
@@ -284,6 +287,6 @@ module _ (frame source : List ℕ) (rows : List Row) (slots : List ℕ) where
         rows-are =
             pairs-append frame (partEntries source rows slots n inner i at) (entries more (i + 1 + width inner) (at + length x))
             ∙ ap₂ (λ (a b : List Pair). a ++ b) (part .1) (later .rows-are)
-            ∙ sym (pairs-append source (kept inner rows) (kept more rows))
+            ∙ sym (pairs-append source (keptRows inner rows) (keptRows more rows))
             ∙ ap (pairsOf source) (kept-both n name inner more (up .3));
       }

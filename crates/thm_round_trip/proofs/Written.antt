@@ -10,15 +10,16 @@ use Rattle.wire_read.specs.Fields.{varintField, bytesField, nextField}
 use Rattle.wire_write.specs.Writing.{putVarint, putTag, putBytes}
 use Rattle.wire_write.proofs.Encoding.{varint-bounds}
 use Rattle.wire_write.proofs.ReadBack.{varintField-back, bytesField-back}
-use Rattle.decoder.specs.Schema.{Schema}
-use Rattle.decoder.specs.Fields.{State, Result, ok, aNumber, look, setSlot, setNumber, withField, andThen, inside, oneField, fieldsIn}
+use Rattle.schema.specs.Schema.{Schema}
+use Rattle.decoder.specs.Fields.{State, Result, ok, setSlot, setNumber, withField, andThen, inside, oneField, fieldsIn}
+use Rattle.schema.specs.Targets.{aNumber, look}
 use Rattle.decoder.proofs.Steps.{fieldsIn-same, withField-enough, fieldsIn-one}
 
 -- reads the bytes s at `at` with as many steps as they are
 abbrev pub reads : (frame : List ℕ) → Schema → (slot at : ℕ) → List ℕ → State → Result
 reads frame sch i at s st = fieldsIn (length s) frame sch i at s st
 
--- how many bytes stand before the content of a field of bytes
+-- how many bytes are before the content of a field of bytes
 abbrev pub headSize : (n : ℕ) → List ℕ → ℕ
 headSize n x = length (putTag n 2) + length (putVarint (length x))
 
@@ -29,7 +30,7 @@ length-bytes n x =
 head-some : (n : ℕ) (x : List ℕ) → 0 < headSize n x
 head-some n x = omega (arith, varint-bounds (n * 8 + 2) .0)
 
--- the content stands behind the head
+-- the content is after the head
 bytes-split : (n : ℕ) (x rest : List ℕ) → putBytes n x ++ rest ≡ (putTag n 2 ++ putVarint (length x)) ++ (x ++ rest)
 bytes-split n x rest = append-assoc (putTag n 2 ++ putVarint (length x)) x rest
 

@@ -1,20 +1,28 @@
--- Demand 2 of the functions themselves: what a caller sees of a call of `write`, and of a call of `read` on the frame that it wrote.
+-- What a caller sees of a call of `write`, of `read_spans`, and of `read` on the frame that was written: demand 2 of the functions
+-- themselves.
 use Prim.Native.Nat.{ℕ}
 use mathlib.Core.Path.{_≡_}
 use mathlib.Core.List.{List}
-use lib.ListN.{take}
+use lib.ListN.{length, take}
 use mir.Val.{Val}
 use denote.Laws.{Is}
-use Rattle.message.proofs.Record as declared
-use Rattle.message.specs.Frames.{Reading}
-use Rattle.message.specs.declared.Record.{Record}
+use Rattle.records.proofs.Record as declared
+use Rattle.message.specs.Frames.{Reading, readFrame}
+use Rattle.message.specs.Spans.{spansOf}
+use Rattle.schema.specs.declared.Kind.{Kind}
+use Rattle.message.specs.declared.Located.{Located}
+use Rattle.records.specs.declared.Record.{Record}
 use Rattle.writer.specs.Writing.{Writing, written}
-use Rattle.thm_round_trip.specs.Statement.{readingOf, ReadsBack}
+use Rattle.thm_round_trip.specs.ReadsBack.{readingOf, ReadsBack}
 
--- the `ensures` of `write`, of what a call of it gave; that of `read` is `Reads` (crate `thm_stream`)
+-- ---- the `ensures` of each function, of what a call of it gave; that of `read` is `Reads` (crate `thm_stream`)
+
 abbrev pub Writes : Record → (source numbers body output : List ℕ) → Writing → Type 0
 Writes r source numbers body output w =
     (w .answer ≡ written r source numbers body output .answer) × (w .output ≡ written r source numbers body output .output)
+
+abbrev pub Locates : Kind → (frame lent : List ℕ) → Located → (rows : List ℕ) → Type 0
+Locates kind frame lent x rows = (x ≡ spansOf (readFrame kind frame lent) (length frame)) × (rows ≡ readFrame kind frame lent .rows)
 
 -- A record that a program passes to `write`: it has a machine value, as its declared types lay it out. Every record that a program can make
 -- has one; a number past its 32 bits has none.

@@ -1,7 +1,10 @@
 -- Demand 2: what the writer accepts reads back as the same record
-pub mod Meaning
-pub mod Statement
--- and what it refuses
+pub mod InRange
+pub mod ReadsBack
+-- what it refuses
 pub mod Refusals
--- both, of the functions themselves
+-- and that all that a reading hands out lies within the frame
+pub mod Lies
+pub mod ReadWithin
+-- The three of the functions themselves
 pub mod Calls

@@ -5,17 +5,17 @@ use mathlib.Core.Logic.{_⊎_}
 use mathlib.Core.Bool.{Bool, true, false}
 use mathlib.Core.List.{List, [], _∷_}
 use lib.ListN.{length}
-use Rattle.deframer.specs.Header.{maxFrame}
+use Rattle.fixed_header.specs.Header.{maxFrame}
 use Rattle.decoder.specs.Rows.{Row}
 use Rattle.decoder.specs.Fields.{partOf}
-use Rattle.message.specs.Records.{attachmentSizeOf}
-use Rattle.message.specs.declared.Kind.{Kind}
-use Rattle.message.specs.declared.Kind.the-variants as kinds
-use Rattle.message.specs.declared.Span.{Span}
-use Rattle.message.specs.declared.Init.{Init}
-use Rattle.message.specs.declared.Record.{Record}
-use Rattle.message.specs.declared.Record.the-variants as records
-use Rattle.outgoing.specs.Content.{kindOf, rowCount, bits, slotsOf}
+use Rattle.records.specs.Records.{attachmentSizeOf}
+use Rattle.schema.specs.declared.Kind.{Kind}
+use Rattle.schema.specs.declared.Kind.the-variants as kinds
+use Rattle.records.specs.declared.Span.{Span}
+use Rattle.records.specs.declared.Init.{Init}
+use Rattle.records.specs.declared.Record.{Record}
+use Rattle.records.specs.declared.Record.the-variants as records
+use Rattle.records.specs.Content.{kindOf, rowCount, bits, slotsOf}
 use Rattle.writer_checks.specs.Grounds.{maxRows, hasMap}
 use Rattle.writer.specs.Writing.{rowsOf, messageOf, frameOf, maxHeader, Writing, refusedWith, wrote}
 use Rattle.writer.specs.declared.Encoded.{Encoded}
@@ -93,8 +93,8 @@ hasBody kinds.Close = false
 -- ---- the writer's grounds
 
 -- "Writer 18's first three grounds, 17, 18's others, 15, 19, 20, 27."
-abbrev pub grounds : Record → (source numbers body : List ℕ) → (room : ℕ) → List Ground
-grounds r source numbers body room =
+abbrev pub writeGrounds : Record → (source numbers body : List ℕ) → (room : ℕ) → List Ground
+writeGrounds r source numbers body room =
     -- "over 64 rows, rows with Feedback or Data, row slice too short for them"
     ground 18 (maxRows < rowCount r)
     ∷ ground 18 ((hasMap (kindOf r) ≡ false) × (0 < rowCount r))
@@ -121,7 +121,7 @@ encodedSays (Refused code) = refuses code
 abbrev pub writeEntry : Record → (source numbers body output : List ℕ) → Entry Writing
 writeEntry r source numbers body output =
     record {
-      grounds = grounds r source numbers body (length output);
+      grounds = writeGrounds r source numbers body (length output);
       says = λ w. encodedSays (w .answer);
       refusal = λ n. refusedWith n output;
       work = wrote (frameOf r source numbers body) output;

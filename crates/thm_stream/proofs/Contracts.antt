@@ -1,5 +1,5 @@
--- What a trace takes a call to ensure (`Answers`, `Leaves`, `Finishes`, `Reads`) is the `ensures` of that function's contract: the two are the same by computation, so
--- neither can be changed without the other.
+-- What a trace takes a call to ensure (`Answers`, `Leaves`, `Finishes`, `Reads`) is the `ensures` of that function's contract: the two are
+-- the same by computation, so neither can be changed without the other.
 -- Assumes nothing.
 use Prim.Native.Nat.{ℕ}
 use mathlib.Core.Path.{_≡_, refl}
@@ -22,26 +22,32 @@ use Rattle.deframer.proofs.deframe as deframe
 use Rattle.deframer.proofs.finish as finish
 use Rattle.message.specs.Frames.{readFrame}
 use Rattle.message.specs.Spans.{spansOf}
-use Rattle.message.specs.declared.Kind.{Kind}
+use Rattle.schema.specs.declared.Kind.{Kind}
 use Rattle.reader.specs.Places.{PartsStand}
 use Rattle.reader.specs.declared.Reading.{Reading}
 use Rattle.reader.proofs.read as read
 use Rattle.thm_stream.specs.Trace.{Answers, Leaves, Finishes, Reads}
 
--- what is lent, and what stands in it afterwards
+-- what is lent, and what is in it afterwards
 module _ {M : Type 1} (𝓤 : URA M) (H : Heap 𝓤) (A : Atoms 𝓤) (mem : Memory → SProp 𝓤) (run : Routine → Fun 𝓤) (κ ι : Lft) where
   pub deframe-ensures : (state : Deframer) (buffer piece : RefT (List ℕ)) (step : Step) (after : List ℕ)
-      → deframe.clauses 𝓤 H A mem run (κ, (ι, tt)) (state, (buffer, (piece, tt))) .ensures tt step (atExit deframe.ended (κ, (ι, tt)) (state, (buffer, (piece, tt))) (tt, (after, (tt, tt))))
-      ≡ sep 𝓤 (fact 𝓤 (Answers state (now buffer) (now piece) (record { step = step; buffer = after }))) (fact 𝓤 (Leaves state (now buffer) (now piece) (record { step = step; buffer = after })))
+      → deframe.clauses 𝓤 H A mem run (κ, (ι, tt)) (state, (buffer, (piece, tt))) .ensures tt step
+      (atExit deframe.ended (κ, (ι, tt)) (state, (buffer, (piece, tt))) (tt, (after, (tt, tt))))
+      ≡ sep 𝓤 (fact 𝓤 (Answers state (now buffer) (now piece) (record { step = step; buffer = after })))
+      (fact 𝓤 (Leaves state (now buffer) (now piece) (record { step = step; buffer = after })))
   deframe-ensures state buffer piece step after = refl
 
   pub finish-ensures : (state : Deframer) (buffer : RefT (List ℕ)) (end : End)
-      → finish.clauses 𝓤 H A mem run (κ, tt) (state, (buffer, tt)) .ensures tt end (atExit finish.ended (κ, tt) (state, (buffer, tt)) (tt, (tt, tt)))
+      → finish.clauses 𝓤 H A mem run (κ, tt) (state, (buffer, tt)) .ensures tt end
+      (atExit finish.ended (κ, tt) (state, (buffer, tt)) (tt, (tt, tt)))
       ≡ fact 𝓤 (Finishes state (now buffer) end)
   finish-ensures state buffer end = refl
 
   pub read-ensures : (kind : Kind) (frame : RefT (List ℕ)) (rows : RefT (List ℕ)) (r : Reading) (after : List ℕ)
-      → read.clauses 𝓤 H A mem run (κ, (ι, tt)) (kind, (frame, (rows, tt))) .ensures tt r (atExit read.ended (κ, (ι, tt)) (kind, (frame, (rows, tt))) (tt, (tt, (after, tt))))
-      ≡ fact 𝓤 (Reads kind (now frame) (now rows) (record { answer = r .answer; header = now (r .header); body = now (r .body); attachment = now (r .attachment); rows = after })
-      × PartsStand (frame .ptr) (spansOf (readFrame kind (now frame) (now rows)) (length (now frame))) (r .header .ptr) (r .body .ptr) (r .attachment .ptr))
+      → read.clauses 𝓤 H A mem run (κ, (ι, tt)) (kind, (frame, (rows, tt))) .ensures tt r
+      (atExit read.ended (κ, (ι, tt)) (kind, (frame, (rows, tt))) (tt, (tt, (after, tt))))
+      ≡ fact 𝓤 (Reads kind (now frame) (now rows)
+      (record { answer = r .answer; header = now (r .header); body = now (r .body); attachment = now (r .attachment); rows = after })
+      × PartsStand (frame .ptr) (spansOf (readFrame kind (now frame) (now rows)) (length (now frame))) (r .header .ptr) (r .body .ptr)
+      (r .attachment .ptr))
   read-ensures kind frame rows r after = refl

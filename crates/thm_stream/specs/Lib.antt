@@ -1,2 +1,4 @@
--- What a caller sees of a list of calls, and what is to hold of it
+-- Demand 3: a list of calls of the deframer and of the end of a stream, the readings of the frames, and what a caller sees of both
+pub mod Calls
+pub mod Readings
 pub mod Trace

@@ -4,14 +4,14 @@ use mathlib.Core.Path.{_≡_}
 use mathlib.Core.List.{List, [], _∷_}
 use lib.ListN.{take}
 use Rattle.deframer.specs.Deframe.{Out, deframed, ended}
-use Rattle.deframer.specs.Calls.{Event, pushed, finished, pushedWrong, finishedWrong, takenOf}
+use Rattle.thm_stream.specs.Calls.{Event, pushed, finished, pushedWrong, finishedWrong, takenOf}
 use Rattle.deframer.specs.declared.Deframer.{Deframer}
 use Rattle.deframer.specs.declared.Progress.{Progress}
 use Rattle.deframer.specs.declared.Progress.the-variants.{Frame, NeedMore, Refused}
 use Rattle.deframer.specs.declared.End.{End}
 use Rattle.message.specs.Frames.{Reading, readFrame}
-use Rattle.message.specs.declared.Kind.{Kind}
-use Rattle.reader.specs.Stream.{Naming, uncutReading, ReadFaithfully}
+use Rattle.schema.specs.declared.Kind.{Kind}
+use Rattle.thm_stream.specs.Readings.{Naming, uncutReading, ReadFaithfully}
 
 -- ---- the `ensures` of each function, of what a call of it gave
 
@@ -37,7 +37,7 @@ Reads kind frame lent x =
     × (x .rows ≡ readFrame kind frame lent .rows)
 
 -- ---- the calls of the deframer and of the end of a stream
--- Each call found the state and the buffer as the one before it left them; a call with another state or another buffer may stand anywhere.
+-- Each call found the state and the buffer as the one before it left them; a call with another state or another buffer may be anywhere.
 abbrev pub Trace : Deframer → (buffer : List ℕ) → List Event → Type 0
 Trace state buffer [] = Unit {0}
 Trace state buffer (pushed piece o ∷ events) = Deframes state buffer piece o × Trace (o .step .next) (o .buffer) events
@@ -46,8 +46,9 @@ Trace state buffer (pushedWrong s b o ∷ events) = ((piece : List ℕ) × Defra
 Trace state buffer (finishedWrong s b e ∷ events) = Finishes s b e × Trace state buffer events
 
 -- ---- what is made of each whole frame
--- One thing x of each, with P, as the frame stood in the buffer, by the frame's number; `n` frames came before.
-abbrev pub NextFrame : {R : Type 0} → (P : ℕ → (frame : List ℕ) → R → Type 0) → ℕ → Progress → (buffer : List ℕ) → (later : ℕ → List R → Type 0) → List R → Type 0
+-- One thing x of each, with P, as the frame was in the buffer, by the frame's number; `n` frames came before.
+abbrev pub NextFrame : {R : Type 0} → (P : ℕ → (frame : List ℕ) → R → Type 0) → ℕ → Progress → (buffer : List ℕ)
+    → (later : ℕ → List R → Type 0) → List R → Type 0
 NextFrame P n (Frame size) buffer later [] = ⊥
 NextFrame P n (Frame size) buffer later (x ∷ xs) = P n (take size buffer) x × later (suc n) xs
 NextFrame P n NeedMore buffer later xs = later n xs

@@ -1,1 +1,2 @@
-// Demand 3 of the functions themselves: what any list of calls of `deframe`, `finish` and `read` gives, by their contracts alone. A theorem, and no code.
+// Demand 3: what any list of calls of `deframe`, `finish` and `read` gives, of the definitions and of the functions by their contracts
+// only. A theorem, and no code.

@@ -2,10 +2,12 @@
 use Prim.Native.Nat.{ℕ, _+_, _-_}
 use mathlib.Core.Path.{_≡_, refl, sym, ap, _∙_}
 use native.Mathlib.Omega.{arith}
+use Rattle.laws.proofs.Booleans.{clash}
 use Rattle.wire_read.specs.Varint.{VarintResult, got, bad}
-use Rattle.wire_read.specs.Tags.{TagResult, field, ended, tagError, LengthResult, bytes, lengthError}
-use Rattle.wire_read.specs.Skipping.{SkipResult, skipped, skipError, further}
-use Rattle.wire_read.specs.Fields.{FieldResult, noField, varintField, fixed64Field, bytesField, groupField, fixed32Field, fieldError, behind}
+use Rattle.wire_read.specs.Tags.{TagResult, field, noTag, tagError, LengthResult, bytes, lengthError}
+use Rattle.wire_read.specs.Skipping.{SkipResult, skipped, skipError, skipAfter}
+use Rattle.wire_read.specs.Fields.{FieldResult, noField, varintField, fixed64Field, bytesField, groupField, fixed32Field}
+use Rattle.wire_read.specs.Fields.{fieldError, fieldAfter}
 use Rattle.wire_read.specs.Placed.{varintAt, tagAt, lengthAt, skipAt, fieldAt}
 use Rattle.wire_read.specs.declared.Varint.{Varint}
 use Rattle.wire_read.specs.declared.Varint.the-variants as varints
@@ -21,7 +23,7 @@ use Rattle.wire_read.specs.declared.Field.the-variants as fields
 module _ (at : ℕ) where
   pub is-bad : {r : Varint} {code : ℕ} (g : VarintResult) → r ≡ varintAt at g → r ≡ varints.Refused code → (g ≡ bad) × (code ≡ 10)
   unfolding varintAt
-  is-bad (got v used) p e = let z : _≡_ {A = ℕ} 0 1 = cc in let a : ⊥ = omega arith in absurd a
+  is-bad (got v used) p e = clash cc
   is-bad bad p e = (refl, cc)
 
   pub is-got : {r : Varint} {v next : ℕ} (g : VarintResult) → r ≡ varintAt at g → r ≡ varints.Value v next
@@ -31,17 +33,17 @@ module _ (at : ℕ) where
       let b : next ≡ at + used = cc in
       let u : next - at ≡ used = omega arith in
       (cc, omega arith)
-  is-got bad p e = let z : _≡_ {A = ℕ} 0 1 = cc in let a : ⊥ = omega arith in absurd a
+  is-got bad p e = clash cc
 
-  pub is-ended : {r : Tag} (g : TagResult) → r ≡ tagAt at g → r ≡ tags.End → g ≡ ended
+  pub is-noTag : {r : Tag} (g : TagResult) → r ≡ tagAt at g → r ≡ tags.End → g ≡ noTag
   unfolding tagAt
-  is-ended ended p e = refl
-  is-ended (tagError code) p e = cc
-  is-ended (field n w used) p e = cc
+  is-noTag noTag p e = refl
+  is-noTag (tagError code) p e = cc
+  is-noTag (field n w used) p e = cc
 
   pub is-tagError : {r : Tag} {code : ℕ} (g : TagResult) → r ≡ tagAt at g → r ≡ tags.Refused code → g ≡ tagError code
   unfolding tagAt
-  is-tagError ended p e = cc
+  is-tagError noTag p e = cc
   is-tagError (tagError code) p e = cc
   is-tagError (field n w used) p e = cc
 
@@ -52,8 +54,8 @@ module _ (at : ℕ) where
       let b : next ≡ at + used = cc in
       let u : next - at ≡ used = omega arith in
       (cc, omega arith)
-  is-field ended p e = let z : _≡_ {A = ℕ} 0 1 = cc in let a : ⊥ = omega arith in absurd a
-  is-field (tagError code) p e = let z : _≡_ {A = ℕ} 0 1 = cc in let a : ⊥ = omega arith in absurd a
+  is-field noTag p e = clash cc
+  is-field (tagError code) p e = clash cc
 
   pub is-lengthError : {r : Length} {code : ℕ} (g : LengthResult) → r ≡ lengthAt at g → r ≡ lengths.Refused code → g ≡ lengthError code
   unfolding lengthAt
@@ -67,7 +69,7 @@ module _ (at : ℕ) where
       let b : start ≡ at + used = cc in
       let u : start - at ≡ used = omega arith in
       (cc, omega arith)
-  is-bytes (lengthError code) p e = let z : _≡_ {A = ℕ} 0 1 = cc in let a : ⊥ = omega arith in absurd a
+  is-bytes (lengthError code) p e = clash cc
 
   pub is-skipError : {r : Skip} {code : ℕ} (g : SkipResult) → r ≡ skipAt at g → r ≡ skips.Refused code → g ≡ skipError code
   unfolding skipAt
@@ -81,25 +83,25 @@ module _ (at : ℕ) where
       let b : next ≡ at + used = cc in
       let u : next - at ≡ used = omega arith in
       (cc, omega arith)
-  is-skipped (skipError code) p e = let z : _≡_ {A = ℕ} 0 1 = cc in let a : ⊥ = omega arith in absurd a
+  is-skipped (skipError code) p e = clash cc
 
--- what follows `n` bytes stands `n` places further
-pub skipAt-further : (at n : ℕ) (o : SkipResult) → skipAt at (further n o) ≡ skipAt (at + n) o
-unfolding skipAt further
-skipAt-further at n (skipped used) = ap skips.Next (omega arith)
-skipAt-further at n (skipError code) = refl
+-- what follows `n` bytes is `n` places further on
+pub skipAt-after : (at n : ℕ) (o : SkipResult) → skipAt at (skipAfter n o) ≡ skipAt (at + n) o
+unfolding skipAt skipAfter
+skipAt-after at n (skipped used) = ap skips.Next (omega arith)
+skipAt-after at n (skipError code) = refl
 
-pub fieldAt-behind : (at n : ℕ) (f : FieldResult) → fieldAt at (behind n f) ≡ fieldAt (at + n) f
-unfolding fieldAt behind
-fieldAt-behind at n noField = refl
-fieldAt-behind at n (varintField m v used) = ap (fields.Varint m v) (omega arith)
-fieldAt-behind at n (fixed64Field m v used) = ap (fields.Fixed64 m v) (omega arith)
-fieldAt-behind at n (bytesField m used size) = ap (λ (x : ℕ). fields.Bytes m x size) (omega arith)
-fieldAt-behind at n (groupField m used) = ap (fields.Group m) (omega arith)
-fieldAt-behind at n (fixed32Field m v used) = ap (fields.Fixed32 m v) (omega arith)
-fieldAt-behind at n (fieldError code) = refl
+pub fieldAt-after : (at n : ℕ) (f : FieldResult) → fieldAt at (fieldAfter n f) ≡ fieldAt (at + n) f
+unfolding fieldAt fieldAfter
+fieldAt-after at n noField = refl
+fieldAt-after at n (varintField m v used) = ap (fields.Varint m v) (omega arith)
+fieldAt-after at n (fixed64Field m v used) = ap (fields.Fixed64 m v) (omega arith)
+fieldAt-after at n (bytesField m used size) = ap (λ (x : ℕ). fields.Bytes m x size) (omega arith)
+fieldAt-after at n (groupField m used) = ap (fields.Group m) (omega arith)
+fieldAt-after at n (fixed32Field m v used) = ap (fields.Fixed32 m v) (omega arith)
+fieldAt-after at n (fieldError code) = refl
 
--- The field that an answer of `next_field` at place `at` tells of.
+-- The field that an answer of `next_field` at place `at` is about.
 abbrev pub fieldOf : ℕ → Field → FieldResult
 fieldOf at fields.End = noField
 fieldOf at (fields.Varint n v after) = varintField n v (after - at)

@@ -1,22 +1,21 @@
 -- Progress and bounds: what a reading of `s` takes is at least a byte and ends within `s`. Nothing past the part is ever needed.
 use Prim.Native.Nat.{ℕ, zero, suc, _+_, _-_, _/_, _%_, _^_, _<_, _≤_}
-use mathlib.Core.Path.{_≡_, refl, sym, subst}
-use mathlib.Core.Bool.{Bool, true, false, cond, _&&_}
+use mathlib.Core.Bool.{Bool, cond, _&&_}
 use mathlib.Core.List.{List, [], _∷_}
 use lib.ListN.{length, drop, take, length-drop}
 use lib.Dec.{ltb, leb, eqb}
 use native.Mathlib.Omega.{arith}
 use borrow.Author.Tests.{leb-true}
-use Rattle.wire_read.specs.Errors.{pastEnd}
+use Rattle.laws.proofs.Booleans.{either, choose}
+use Rattle.refusals.specs.Numbers.{pastEnd}
+use Rattle.wire_read.proofs.Cases.{varint-cases, tag-cases, length-cases, skip-cases, flag-cases}
 use Rattle.wire_read.specs.Varint.{VarintResult, got, bad, joined, groups, varint}
-use Rattle.wire_read.specs.Tags.{WireType, VARINT, I64, LEN, SGROUP, EGROUP, I32, reserved, wireType, TagResult, field, ended, tagError, split, tag, LengthResult, bytes, lengthError, within, lengthPrefix}
-use Rattle.wire_read.specs.Skipping.{SkipResult, skipped, skipError, further, skipVarint, skipFixed, skipBytes, value, inGroup, groupIn}
-use Rattle.wire_read.specs.Fields.{FieldResult, noField, varintField, fixed64Field, bytesField, groupField, fixed32Field, fieldError, littleEndian, content, behind, nextField}
-
-module _ {A : Type 0} (P : A → Type 0) where
-  pub either : (b : Bool) {x y : A} → P x → P y → P (cond b x y)
-  either true p q = p
-  either false p q = q
+use Rattle.wire_read.specs.Tags.{WireType, VARINT, I64, LEN, SGROUP, EGROUP, I32, reserved, wireType, TagResult, field, noTag}
+use Rattle.wire_read.specs.Tags.{tagError, split, tag, LengthResult, bytes, lengthError, lengthWithin, lengthPrefix}
+use Rattle.wire_read.specs.Skipping.{SkipResult, skipped, skipError, skipAfter, skipVarint, skipFixed, skipBytes, value, inGroup}
+use Rattle.wire_read.specs.Skipping.{groupIn}
+use Rattle.wire_read.specs.Fields.{FieldResult, noField, varintField, fixed64Field, bytesField, groupField, fixed32Field}
+use Rattle.wire_read.specs.Fields.{fieldError, littleEndian, content, fieldAfter, nextField}
 
 -- varints
 abbrev pub VarintIn : List ℕ → VarintResult → Type 0
@@ -44,7 +43,7 @@ varint-in s = groups-in 10 s
 -- tags
 abbrev pub TagIn : List ℕ → TagResult → Type 0
 TagIn s (field n w used) = (0 < used) × (used ≤ length s)
-TagIn s ended = Unit {0}
+TagIn s noTag = Unit {0}
 TagIn s (tagError code) = Unit {0}
 
 split-in : (s : List ℕ) (g : VarintResult) → VarintIn s g → TagIn s (split g)
@@ -62,18 +61,16 @@ abbrev pub LengthIn : List ℕ → LengthResult → Type 0
 LengthIn s (bytes used size) = (0 < used) × (used + size ≤ length s)
 LengthIn s (lengthError code) = Unit {0}
 
-within-in : (s : List ℕ) (g : VarintResult) → VarintIn s g → LengthIn s (within s g)
-unfolding within
-within-in s bad h = tt
-within-in s (got size used) h = by (leb size (length s - used)) refl
-  where
-    by : (b : Bool) → leb size (length s - used) ≡ b → LengthIn s (cond b (bytes used size) (lengthError pastEnd))
-    by true e = (h .0, omega (arith, leb-true size (length s - used) e))
-    by false e = tt
+lengthWithin-in : (s : List ℕ) (g : VarintResult) → VarintIn s g → LengthIn s (lengthWithin s g)
+unfolding lengthWithin
+lengthWithin-in s bad h = tt
+lengthWithin-in s (got size used) h =
+    choose (LengthIn s) (leb size (length s - used)) (bytes used size) (lengthError pastEnd)
+    (λ e. (h .0, omega (arith, leb-true size (length s - used) e))) (λ e. tt)
 
 pub lengthPrefix-in : (s : List ℕ) → LengthIn s (lengthPrefix s)
 unfolding lengthPrefix
-lengthPrefix-in s = within-in s (varint s) (varint-in s)
+lengthPrefix-in s = lengthWithin-in s (varint s) (varint-in s)
 
 -- values and groups that are skipped
 abbrev pub SkipIn : List ℕ → SkipResult → Type 0
@@ -82,28 +79,17 @@ SkipIn s (skipError code) = Unit {0}
 
 skipVarint-in : (s : List ℕ) → SkipIn s (skipVarint s)
 unfolding skipVarint
-skipVarint-in s = by (varint s) refl (varint-in s)
-  where
-    by : (v : VarintResult) → varint s ≡ v → VarintIn s v → SkipIn s (skipVarint s)
-    by bad e h = let z : skipVarint s ≡ skipError 10 = cc in subst (SkipIn s) (sym z) tt
-    by (got v used) e h = let z : skipVarint s ≡ skipped used = cc in subst (SkipIn s) (sym z) h
+skipVarint-in s = varint-cases (SkipIn s) (VarintIn s) (varint s) (varint-in s) (λ h. tt) (λ v used h. h)
 
 skipFixed-in : (width : ℕ) (s : List ℕ) → 0 < width → SkipIn s (skipFixed width s)
 unfolding skipFixed
-skipFixed-in width s h = by (leb width (length s)) refl
-  where
-    by : (b : Bool) → leb width (length s) ≡ b → SkipIn s (cond b (skipped width) (skipError pastEnd))
-    by true e = (h, leb-true width (length s) e)
-    by false e = tt
+skipFixed-in width s h =
+    choose (SkipIn s) (leb width (length s)) (skipped width) (skipError pastEnd) (λ e. (h, leb-true width (length s) e)) (λ e. tt)
 
 skipBytes-in : (s : List ℕ) → SkipIn s (skipBytes s)
 unfolding skipBytes
-skipBytes-in s = by (lengthPrefix s) refl (lengthPrefix-in s)
-  where
-    by : (v : LengthResult) → lengthPrefix s ≡ v → LengthIn s v → SkipIn s (skipBytes s)
-    by (lengthError code) e h = let z : skipBytes s ≡ skipError code = cc in subst (SkipIn s) (sym z) tt
-    by (bytes used size) e h =
-        let z : skipBytes s ≡ skipped (used + size) = cc in subst (SkipIn s) (sym z) (omega arith, omega arith)
+skipBytes-in s =
+    length-cases (SkipIn s) (LengthIn s) (lengthPrefix s) (lengthPrefix-in s) (λ code h. tt) (λ used size h. (omega arith, omega arith))
 
 pub value-in : (g : ℕ → ℕ → List ℕ → SkipResult) (n : ℕ) (w : WireType) (d : ℕ) (s : List ℕ) → ((m e : ℕ) → SkipIn s (g m e s))
     → SkipIn s (value g n w d s)
@@ -117,41 +103,27 @@ value-in g n EGROUP d s q = tt
 value-in g n I32 d s q = skipFixed-in 4 s (omega arith)
 value-in g n reserved d s q = tt
 
-further-in : (n : ℕ) (s : List ℕ) (o : SkipResult) → n ≤ length s → SkipIn (drop n s) o → SkipIn s (further n o)
-unfolding further
-further-in n s (skipped used) h q = (omega arith, omega (arith, length-drop n s))
-further-in n s (skipError code) h q = tt
+skipAfter-in : (n : ℕ) (s : List ℕ) (o : SkipResult) → n ≤ length s → SkipIn (drop n s) o → SkipIn s (skipAfter n o)
+unfolding skipAfter
+skipAfter-in n s (skipped used) h q = (omega arith, omega (arith, length-drop n s))
+skipAfter-in n s (skipError code) h q = tt
 
-inGroup-in : (g : ℕ → ℕ → List ℕ → SkipResult) (n d : ℕ) (s : List ℕ) → ((m e : ℕ) (z : List ℕ) → SkipIn z (g m e z)) → SkipIn s (inGroup g n d s)
+inGroup-in : (g : ℕ → ℕ → List ℕ → SkipResult) (n d : ℕ) (s : List ℕ) → ((m e : ℕ) (z : List ℕ) → SkipIn z (g m e z))
+    → SkipIn s (inGroup g n d s)
 unfolding inGroup
-inGroup-in g n d s q = by (tag s) refl (tag-in s)
-  where
-    more : (used size : ℕ) → used ≤ length s → size ≤ length (drop used s) → SkipIn s (further (used + size) (g n d (drop (used + size) s)))
-    more used size a b =
-        further-in (used + size) s (g n d (drop (used + size) s)) (omega (arith, length-drop used s)) (q n d (drop (used + size) s))
-
-    by : (t : TagResult) → tag s ≡ t → TagIn s t → SkipIn s (inGroup g n d s)
-    by ended e h = let z : inGroup g n d s ≡ skipError 12 = cc in subst (SkipIn s) (sym z) tt
-    by (tagError code) e h = let z : inGroup g n d s ≡ skipError code = cc in subst (SkipIn s) (sym z) tt
-    by (field m w used) e h =
-        on (eqb w 4) refl (value g m (wireType w) d (drop used s)) refl (value-in g m (wireType w) d (drop used s) (λ a c. q a c (drop used s)))
-      where
-        on : (f : Bool) → eqb w 4 ≡ f → (o : SkipResult) → value g m (wireType w) d (drop used s) ≡ o
-            → SkipIn (drop used s) (value g m (wireType w) d (drop used s)) → SkipIn s (inGroup g n d s)
-        on true f o v b =
-            let z : inGroup g n d s ≡ cond (eqb m n) (skipped used) (skipError 11) = cc in
-            subst (SkipIn s) (sym z) (either (SkipIn s) (eqb m n) h tt)
-        on false f (skipError code) v b = let z : inGroup g n d s ≡ skipError code = cc in subst (SkipIn s) (sym z) tt
-        on false f (skipped size) v b =
-            let z : inGroup g n d s ≡ further (used + size) (g n d (drop (used + size) s)) = cc in
-            subst (SkipIn s) (sym z) (more used size (h .1) (subst (SkipIn (drop used s)) v b .1))
+inGroup-in g n d s q =
+    tag-cases (SkipIn s) (TagIn s) (tag s) (tag-in s) (λ h. tt) (λ code h. tt) (λ m w used h.
+    flag-cases (SkipIn s) (λ (b : Bool). Unit {0}) (eqb w 4) tt (λ end. either (SkipIn s) (eqb m n) h tt) (λ inner.
+    skip-cases (SkipIn s) (SkipIn (drop used s)) (value g m (wireType w) d (drop used s))
+    (value-in g m (wireType w) d (drop used s) (λ a c. q a c (drop used s))) (λ code v. tt) (λ size v.
+    skipAfter-in (used + size) s (g n d (drop (used + size) s)) (omega (arith, length-drop used s)) (q n d (drop (used + size) s)))))
 
 pub groupIn-in : (k n d : ℕ) (s : List ℕ) → SkipIn s (groupIn k n d s)
 unfolding groupIn
 groupIn-in zero n d s = tt
 groupIn-in (suc k) n d s = inGroup-in (groupIn k) n d s (groupIn-in k)
 
--- the value behind a tag, at any depth and with any number of steps
+-- the value after a tag, at any depth and with any number of steps
 pub skipValue-in : (k n : ℕ) (w : WireType) (d : ℕ) (s : List ℕ) → SkipIn s (value (groupIn k) n w d s)
 skipValue-in k n w d s = value-in (groupIn k) n w d s (λ m e. groupIn-in k m e s)
 
@@ -165,55 +137,35 @@ FieldIn s (groupField n used) = (0 < used) × (used ≤ length s)
 FieldIn s (fixed32Field n v used) = (0 < used) × (used ≤ length s)
 FieldIn s (fieldError code) = Unit {0}
 
+fixed-in : (s : List ℕ) (width : ℕ) (f : FieldResult) → (width ≤ length s → FieldIn s f)
+    → FieldIn s (cond (leb width (length s)) f (fieldError pastEnd))
+fixed-in s width f h =
+    choose (FieldIn s) (leb width (length s)) f (fieldError pastEnd) (λ e. h (leb-true width (length s) e)) (λ e. tt)
+
 pub content-in : (n : ℕ) (w : WireType) (s : List ℕ) → FieldIn s (content n w s)
 unfolding content
-content-in n VARINT s = by (varint s) refl (varint-in s)
-  where
-    by : (v : VarintResult) → varint s ≡ v → VarintIn s v → FieldIn s (content n VARINT s)
-    by bad e h = let z : content n VARINT s ≡ fieldError 10 = cc in subst (FieldIn s) (sym z) tt
-    by (got v used) e h = let z : content n VARINT s ≡ varintField n v used = cc in subst (FieldIn s) (sym z) h
-content-in n I64 s = by (leb 8 (length s)) refl
-  where
-    by : (b : Bool) → leb 8 (length s) ≡ b → FieldIn s (cond b (fixed64Field n (littleEndian (take 8 s)) 8) (fieldError pastEnd))
-    by true e = (omega arith, leb-true 8 (length s) e)
-    by false e = tt
-content-in n LEN s = by (lengthPrefix s) refl (lengthPrefix-in s)
-  where
-    by : (v : LengthResult) → lengthPrefix s ≡ v → LengthIn s v → FieldIn s (content n LEN s)
-    by (lengthError code) e h = let z : content n LEN s ≡ fieldError code = cc in subst (FieldIn s) (sym z) tt
-    by (bytes used size) e h = let z : content n LEN s ≡ bytesField n used size = cc in subst (FieldIn s) (sym z) h
-content-in n SGROUP s = by (value (groupIn (length s)) n SGROUP 32 s) refl (skipValue-in (length s) n SGROUP 32 s)
-  where
-    by : (v : SkipResult) → value (groupIn (length s)) n SGROUP 32 s ≡ v → SkipIn s (value (groupIn (length s)) n SGROUP 32 s)
-        → FieldIn s (content n SGROUP s)
-    by (skipError code) e h = let z : content n SGROUP s ≡ fieldError code = cc in subst (FieldIn s) (sym z) tt
-    by (skipped used) e h =
-        let z : content n SGROUP s ≡ groupField n used = cc in subst (FieldIn s) (sym z) (subst (SkipIn s) e h)
+content-in n VARINT s = varint-cases (FieldIn s) (VarintIn s) (varint s) (varint-in s) (λ h. tt) (λ v used h. h)
+content-in n I64 s = fixed-in s 8 (fixed64Field n (littleEndian (take 8 s)) 8) (λ h. (omega arith, h))
+content-in n LEN s = length-cases (FieldIn s) (LengthIn s) (lengthPrefix s) (lengthPrefix-in s) (λ code h. tt) (λ used size h. h)
+content-in n SGROUP s =
+    skip-cases (FieldIn s) (SkipIn s) (value (groupIn (length s)) n SGROUP 32 s) (skipValue-in (length s) n SGROUP 32 s)
+    (λ code h. tt) (λ used h. h)
 content-in n EGROUP s = tt
-content-in n I32 s = by (leb 4 (length s)) refl
-  where
-    by : (b : Bool) → leb 4 (length s) ≡ b → FieldIn s (cond b (fixed32Field n (littleEndian (take 4 s)) 4) (fieldError pastEnd))
-    by true e = (omega arith, leb-true 4 (length s) e)
-    by false e = tt
+content-in n I32 s = fixed-in s 4 (fixed32Field n (littleEndian (take 4 s)) 4) (λ h. (omega arith, h))
 content-in n reserved s = tt
 
-behind-in : (n : ℕ) (s : List ℕ) (f : FieldResult) → n ≤ length s → FieldIn (drop n s) f → FieldIn s (behind n f)
-unfolding behind
-behind-in n s noField h q = tt
-behind-in n s (varintField m v used) h q = (omega arith, omega (arith, length-drop n s))
-behind-in n s (fixed64Field m v used) h q = (omega arith, omega (arith, length-drop n s))
-behind-in n s (bytesField m used size) h q = (omega arith, omega (arith, length-drop n s))
-behind-in n s (groupField m used) h q = (omega arith, omega (arith, length-drop n s))
-behind-in n s (fixed32Field m v used) h q = (omega arith, omega (arith, length-drop n s))
-behind-in n s (fieldError code) h q = tt
+fieldAfter-in : (n : ℕ) (s : List ℕ) (f : FieldResult) → n ≤ length s → FieldIn (drop n s) f → FieldIn s (fieldAfter n f)
+unfolding fieldAfter
+fieldAfter-in n s noField h q = tt
+fieldAfter-in n s (varintField m v used) h q = (omega arith, omega (arith, length-drop n s))
+fieldAfter-in n s (fixed64Field m v used) h q = (omega arith, omega (arith, length-drop n s))
+fieldAfter-in n s (bytesField m used size) h q = (omega arith, omega (arith, length-drop n s))
+fieldAfter-in n s (groupField m used) h q = (omega arith, omega (arith, length-drop n s))
+fieldAfter-in n s (fixed32Field m v used) h q = (omega arith, omega (arith, length-drop n s))
+fieldAfter-in n s (fieldError code) h q = tt
 
 pub nextField-in : (s : List ℕ) → FieldIn s (nextField s)
 unfolding nextField
-nextField-in s = by (tag s) refl (tag-in s)
-  where
-    by : (t : TagResult) → tag s ≡ t → TagIn s t → FieldIn s (nextField s)
-    by ended e h = let z : nextField s ≡ noField = cc in subst (FieldIn s) (sym z) tt
-    by (tagError code) e h = let z : nextField s ≡ fieldError code = cc in subst (FieldIn s) (sym z) tt
-    by (field n w used) e h =
-        let z : nextField s ≡ behind used (content n (wireType w) (drop used s)) = cc in
-        subst (FieldIn s) (sym z) (behind-in used s (content n (wireType w) (drop used s)) (h .1) (content-in n (wireType w) (drop used s)))
+nextField-in s =
+    tag-cases (FieldIn s) (TagIn s) (tag s) (tag-in s) (λ h. tt) (λ code h. tt) (λ n w used h.
+    fieldAfter-in used s (content n (wireType w) (drop used s)) (h .1) (content-in n (wireType w) (drop used s)))

@@ -5,9 +5,10 @@ use mathlib.Core.List.{List, [], _∷_, _++_, map}
 use lib.ListN.{replicate}
 use lib.IntN.{negsuc}
 use Rattle.wire_read.specs.Varint.{VarintResult, got, bad, joined, groups, varint, twosComplement, lowI32}
-use Rattle.wire_read.specs.Tags.{wireType, split, tag, within, lengthPrefix}
-use Rattle.wire_read.specs.Skipping.{further, skipVarint, skipFixed, skipBytes, value, inGroup, groupIn}
-use Rattle.wire_read.specs.Fields.{FieldResult, noField, varintField, fixed64Field, bytesField, groupField, fixed32Field, fieldError, littleEndian, content, behind, nextField}
+use Rattle.wire_read.specs.Tags.{wireType, split, tag, lengthWithin, lengthPrefix}
+use Rattle.wire_read.specs.Skipping.{skipAfter, skipVarint, skipFixed, skipBytes, value, inGroup, groupIn}
+use Rattle.wire_read.specs.Fields.{FieldResult, noField, varintField, fixed64Field, bytesField, groupField, fixed32Field}
+use Rattle.wire_read.specs.Fields.{fieldError, littleEndian, content, fieldAfter, nextField}
 
 record VarintRow : Type 0 where
   read : List ℕ
@@ -78,7 +79,8 @@ fields =
     ∷ []
 
 fields-read : map (λ (r : FieldRow). nextField (r .read)) fields ≡ map (λ (r : FieldRow). r .answer) fields
-unfolding fields nested nextField behind content tag split varint groups joined wireType lengthPrefix within value inGroup groupIn further skipVarint skipFixed skipBytes littleEndian
+unfolding fields nested nextField fieldAfter content tag split varint groups joined wireType lengthPrefix lengthWithin value inGroup
+    groupIn skipAfter skipVarint skipFixed skipBytes littleEndian
 fields-read = refl
 
 -- "response 20, nine FF, 01: ret -1"

@@ -8,8 +8,9 @@ use lib.Seq.{take-take}
 use lib.Dec.{leb}
 use native.Mathlib.Omega.{arith}
 use borrow.Author.Tests.{leb-true}
+use Rattle.laws.proofs.Booleans.{clash}
 use Rattle.wire_read.specs.Part.{part}
-use Rattle.wire_read.specs.Errors.{pastEnd}
+use Rattle.refusals.specs.Numbers.{pastEnd}
 use Rattle.wire_read.specs.Skipping.{skipFixed}
 use Rattle.wire_read.specs.Fields.{FieldResult, fieldError, littleEndian}
 use Rattle.wire_read.specs.Placed.{skipAt, fieldAt}
@@ -25,14 +26,14 @@ module _ (s : List ℕ) (at end width : ℕ) (k : Skip) (is-k : k ≡ skipAt at 
     where
       by : (b : Bool) → leb width (length (part s at end)) ≡ b → (leb width (length (part s at end)) ≡ true) × (after ≡ at + width)
       by true h = (h, cc)
-      by false h = let z : _≡_ {A = ℕ} 0 1 = cc in let a : ⊥ = omega arith in absurd a
+      by false h = clash cc
 
   no-room : (code : ℕ) → k ≡ skips.Refused code → (leb width (length (part s at end)) ≡ false) × (code ≡ 12)
   unfolding skipFixed skipAt
   no-room code e = by (leb width (length (part s at end))) refl
     where
       by : (b : Bool) → leb width (length (part s at end)) ≡ b → (leb width (length (part s at end)) ≡ false) × (code ≡ 12)
-      by true h = let z : _≡_ {A = ℕ} 0 1 = cc in let a : ⊥ = omega arith in absurd a
+      by true h = clash cc
       by false h = (h, cc)
 
   pub in-slice : 0 < width → (after : ℕ) → k ≡ skips.Next after → at + width ≤ length s
@@ -40,7 +41,8 @@ module _ (s : List ℕ) (at end width : ℕ) (k : Skip) (is-k : k ≡ skipAt at 
 
   same-bytes : (after : ℕ) → k ≡ skips.Next after → take width (part s at end) ≡ take width (drop at s)
   same-bytes after e =
-      take-take width (end - at) (drop at s) (omega (arith, part-length s at end, leb-true width (length (part s at end)) (room after e .0)))
+      take-take width (end - at) (drop at s) (omega
+      (arith, part-length s at end, leb-true width (length (part s at end)) (room after e .0)))
 
   pub refusal : (x : FieldResult) (code : ℕ) → k ≡ skips.Refused code
       → fields.Refused code ≡ fieldAt at (cond (leb width (length (part s at end))) x (fieldError pastEnd))
@@ -48,5 +50,6 @@ module _ (s : List ℕ) (at end width : ℕ) (k : Skip) (is-k : k ≡ skipAt at 
   refusal x code e = let g = no-room code e in rw (g .0, g .1)
 
   pub found : (f : ℕ → FieldResult) (after v : ℕ) → k ≡ skips.Next after → v ≡ littleEndian (take width (drop at s))
-      → fieldAt at (f v) ≡ fieldAt at (cond (leb width (length (part s at end))) (f (littleEndian (take width (part s at end)))) (fieldError pastEnd))
+      → fieldAt at (f v)
+      ≡ fieldAt at (cond (leb width (length (part s at end))) (f (littleEndian (take width (part s at end)))) (fieldError pastEnd))
   found f after v e is-v = rw (room after e .0, same-bytes after e, is-v)

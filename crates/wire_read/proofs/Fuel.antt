@@ -1,15 +1,17 @@
 -- Steps beyond a part's length change nothing in how a group is read, so that a law may give as many steps as suit it.
 use Prim.Native.Nat.{ℕ, zero, suc, pred, _+_, _<_, _≤_}
-use mathlib.Core.Path.{_≡_, refl, sym}
-use mathlib.Core.Bool.{Bool, true, false}
+use mathlib.Core.Path.{_≡_, refl, sym, subst}
+use mathlib.Core.Bool.{Bool}
 use mathlib.Core.List.{List, []}
 use lib.ListN.{length, drop, length-drop}
 use lib.Dec.{eqb}
 use native.Mathlib.Omega.{arith}
-use Rattle.wire_read.specs.Tags.{WireType, VARINT, I64, LEN, SGROUP, EGROUP, I32, reserved, wireType, TagResult, field, ended, tagError, tag}
-use Rattle.wire_read.specs.Skipping.{SkipResult, skipped, skipError, value, inGroup, groupIn, skipGroup, skipValue}
+use Rattle.wire_read.proofs.Cases.{tag-cases, skip-cases, flag-cases}
+use Rattle.laws.proofs.Lists.{empty}
+use Rattle.wire_read.specs.Tags.{WireType, VARINT, I64, LEN, SGROUP, EGROUP, I32, reserved, wireType, TagResult, field}
+use Rattle.wire_read.specs.Tags.{tag}
+use Rattle.wire_read.specs.Skipping.{SkipResult, skipError, value, inGroup, groupIn, skipGroup, skipValue}
 use Rattle.wire_read.proofs.Bounds.{TagIn, tag-in}
-use Rattle.wire_read.proofs.PartLaws.{no-bytes}
 
 module _ (g h : ℕ → ℕ → List ℕ → SkipResult) where
   value-same : (n : ℕ) (w : WireType) (d : ℕ) (s : List ℕ) → ((m e : ℕ) → g m e s ≡ h m e s) → value g n w d s ≡ value h n w d s
@@ -23,25 +25,19 @@ module _ (g h : ℕ → ℕ → List ℕ → SkipResult) where
   value-same n I32 d s q = refl
   value-same n reserved d s q = refl
 
-  inGroup-same : (n d : ℕ) (s : List ℕ) → ((m e : ℕ) (z : List ℕ) → length z < length s → g m e z ≡ h m e z) → inGroup g n d s ≡ inGroup h n d s
+  inGroup-same : (n d : ℕ) (s : List ℕ) → ((m e : ℕ) (z : List ℕ) → length z < length s → g m e z ≡ h m e z)
+      → inGroup g n d s ≡ inGroup h n d s
   unfolding inGroup
-  inGroup-same n d s q = by (tag s) refl
+  inGroup-same n d s q =
+      tag-cases Same (λ (t : TagResult). tag s ≡ t) (tag s) refl (λ e. cc) (λ code e. cc) (λ m w used e.
+      let b : TagIn s (field m w used) = subst (TagIn s) e (tag-in s) in
+      let v = value-same m (wireType w) d (drop used s) (λ a c. q a c (drop used s) (omega (arith, length-drop used s))) in
+      flag-cases Same (λ (f : Bool). eqb w 4 ≡ f) (eqb w 4) refl (λ f. cc) (λ f.
+      skip-cases Same (λ (o : SkipResult). value g m (wireType w) d (drop used s) ≡ o) (value g m (wireType w) d (drop used s)) refl
+      (λ code o. cc) (λ size o. cc (q n d (drop (used + size) s) (omega (arith, length-drop (used + size) s))))))
     where
-      by : (t : TagResult) → tag s ≡ t → inGroup g n d s ≡ inGroup h n d s
-      by ended e = cc
-      by (tagError code) e = cc
-      by (field m w used) e =
-          let b : TagIn s (field m w used) = rw e at (tag-in s) in
-          let v : value g m (wireType w) d (drop used s) ≡ value h m (wireType w) d (drop used s) =
-          value-same m (wireType w) d (drop used s) (λ a c. q a c (drop used s) (omega (arith, length-drop used s))) in
-          on (eqb w 4) refl (value h m (wireType w) d (drop used s)) refl v b
-        where
-          on : (f : Bool) → eqb w 4 ≡ f → (o : SkipResult) → value h m (wireType w) d (drop used s) ≡ o
-              → value g m (wireType w) d (drop used s) ≡ value h m (wireType w) d (drop used s) → TagIn s (field m w used)
-              → inGroup g n d s ≡ inGroup h n d s
-          on true f o v₁ v₂ b = cc
-          on false f (skipError code) v₁ v₂ b = cc
-          on false f (skipped size) v₁ v₂ b = cc (q n d (drop (used + size) s) (omega (arith, length-drop (used + size) s)))
+      Same : SkipResult → Type 0
+      Same o = o ≡ inGroup h n d s
 
 group-nil : (k n d : ℕ) → groupIn k n d [] ≡ skipError 12
 unfolding groupIn inGroup tag
@@ -51,8 +47,8 @@ group-nil (suc k) n d = refl
 -- any two numbers of steps that are enough
 pub groupIn-same : (k j n d : ℕ) (s : List ℕ) → length s ≤ k → length s ≤ j → groupIn k n d s ≡ groupIn j n d s
 unfolding groupIn
-groupIn-same zero j n d s h l = rw (no-bytes s h) (sym (group-nil j n d))
-groupIn-same (suc k) zero n d s h l = rw (no-bytes s l) (group-nil (suc k) n d)
+groupIn-same zero j n d s h l = rw (empty s h) (sym (group-nil j n d))
+groupIn-same (suc k) zero n d s h l = rw (empty s l) (group-nil (suc k) n d)
 groupIn-same (suc k) (suc j) n d s h l =
     inGroup-same (groupIn k) (groupIn j) n d s (λ m e z q. groupIn-same k j m e z (omega arith) (omega arith))
 

@@ -32,9 +32,9 @@ pub record Joining (s : List ℕ) (at end stop value shift i : ℕ) : Type 0 whe
   pub low : value < 2 ^ shift
   pub rest : varintAt at (varint (part s at end)) ≡ varintAt i (over value shift (groups (10 - (i - at)) (part s i end)))
 
-pub start : (s : List ℕ) (at end stop : ℕ) → stop ≡ min end (length s) → Joining s at end stop 0 0 at
+pub joining-starts : (s : List ℕ) (at end stop : ℕ) → stop ≡ min end (length s) → Joining s at end stop 0 0 at
 unfolding varint over
-start s at end stop h =
+joining-starts s at end stop h =
     let none : at - at ≡ 0 = omega arith in
     record {
       from = omega arith;
@@ -71,7 +71,8 @@ module _ (s : List ℕ) (at end stop value shift i : ℕ) (j : Joining s at end 
 
   module _ (b : ℕ) (byte : b ≡ getD s i 0) (inside : i < stop) where
     next : groups (10 - (i - at)) (part s i end)
-        ≡ cond (ltb b 128) (cond (eqb (9 - (i - at)) 0 && ltb 1 b) bad (got b 1)) (joined (b % 128) (groups (9 - (i - at)) (part s (suc i) end)))
+        ≡ cond (ltb b 128) (cond (eqb (9 - (i - at)) 0 && ltb 1 b) bad (got b 1))
+        (joined (b % 128) (groups (9 - (i - at)) (part s (suc i) end)))
     unfolding groups
     next =
         let room : 10 - (i - at) ≡ suc (9 - (i - at)) = omega (arith, j .shifted, j .top) in
@@ -128,7 +129,11 @@ module _ (s : List ℕ) (at end stop value shift i : ℕ) (j : Joining s at end 
           top = omega (arith, j .shifted, j .top);
           low =
               rw (group-joined fit)
-              (omega (arith, pow-add 2 shift 7, digits-lt {q = b % 128} {m = 128} {r = value} {c = 2 ^ shift} (mod-lt b (omega arith)) (j .low)));
+              (omega (
+                arith,
+                pow-add 2 shift 7,
+                digits-lt {q = b % 128} {m = 128} {r = value} {c = 2 ^ shift} (mod-lt b (omega arith)) (j .low),
+              ));
           rest =
               j .rest
               ∙ rw (next, le-ltb b 128 h, group-joined fit, ← room, add-one i)

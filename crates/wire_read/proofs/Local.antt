@@ -1,6 +1,6 @@
--- A reading that is settled does not depend on what follows: with more bytes behind `s` the answer is the same.
--- Settled is every answer that found what it looked for, and of the error codes 11 and 13. Not settled are the end of the part, and 10 and 12, which
--- may say only that the part ends too soon.
+-- A reading that is settled does not depend on what follows: with more bytes after `s` the answer is the same.
+-- Settled is every answer that found what it looked for, and of the error codes 11 and 13. Not settled are the end of the part, and 10
+-- and 12, which may say only that the part ends too soon.
 use Prim.Native.Nat.{ℕ, zero, suc, _+_, _-_, _%_, _≤_}
 use mathlib.Core.Path.{_≡_, refl, ap, subst, _∙_}
 use mathlib.Core.Bool.{Bool, true, false, cond, _&&_}
@@ -11,11 +11,16 @@ use lib.Seq.{take-append-le, drop-append-le}
 use lib.Dec.{ltb, leb, eqb}
 use native.Mathlib.Omega.{arith}
 use borrow.Author.Tests.{le-leb, leb-true}
-use Rattle.wire_read.specs.Errors.{pastEnd}
+use Rattle.laws.proofs.Booleans.{clash, choose}
+use Rattle.refusals.specs.Numbers.{pastEnd}
 use Rattle.wire_read.specs.Varint.{VarintResult, got, bad, joined, groups, varint}
-use Rattle.wire_read.specs.Tags.{WireType, VARINT, I64, LEN, SGROUP, EGROUP, I32, reserved, wireType, TagResult, field, ended, tagError, split, tag, LengthResult, bytes, lengthError, within, lengthPrefix}
-use Rattle.wire_read.specs.Skipping.{SkipResult, skipped, skipError, further, skipVarint, skipFixed, skipBytes, value, inGroup, groupIn, skipGroup, skipValue}
-use Rattle.wire_read.specs.Fields.{FieldResult, noField, varintField, fixed64Field, bytesField, groupField, fixed32Field, fieldError, littleEndian, content, behind, nextField}
+use Rattle.wire_read.specs.Tags.{WireType, VARINT, I64, LEN, SGROUP, EGROUP, I32, reserved, wireType, TagResult, field, noTag}
+use Rattle.wire_read.specs.Tags.{tagError, split, tag, LengthResult, bytes, lengthError, lengthWithin, lengthPrefix}
+use Rattle.wire_read.specs.Skipping.{SkipResult, skipped, skipError, skipAfter, skipVarint, skipFixed, skipBytes, value, inGroup}
+use Rattle.wire_read.specs.Skipping.{groupIn, skipGroup, skipValue}
+use Rattle.wire_read.specs.Fields.{FieldResult, noField, varintField, fixed64Field, bytesField, groupField, fixed32Field}
+use Rattle.wire_read.specs.Fields.{fieldError, littleEndian, content, fieldAfter, nextField}
+use Rattle.wire_read.proofs.Cases.{varint-cases, tag-cases, length-cases, skip-cases, flag-cases}
 use Rattle.wire_read.proofs.Bounds.{TagIn, tag-in, SkipIn, skipValue-in}
 use Rattle.wire_read.proofs.Fuel.{skipGroup-enough, skipValue-enough}
 
@@ -61,7 +66,7 @@ varint-local s t h = groups-local 10 s t h
 -- ---- tags
 abbrev pub TagSettled : TagResult → Type 0
 TagSettled (field n w used) = Unit {0}
-TagSettled ended = ⊥
+TagSettled noTag = ⊥
 TagSettled (tagError code) = Lasting code
 
 split-settled : (g : VarintResult) → TagSettled (split g) → VarintSettled g
@@ -80,20 +85,19 @@ LengthSettled (bytes used size) = Unit {0}
 LengthSettled (lengthError code) = ⊥
 
 pub lengthPrefix-local : (s t : List ℕ) → LengthSettled (lengthPrefix s) → lengthPrefix (s ++ t) ≡ lengthPrefix s
-unfolding lengthPrefix within
-lengthPrefix-local s t h = by (varint s) refl h
+unfolding lengthPrefix lengthWithin
+lengthPrefix-local s t = by (varint s) refl
   where
-    by : (g : VarintResult) → varint s ≡ g → LengthSettled (within s g) → lengthPrefix (s ++ t) ≡ lengthPrefix s
-    by bad e q = absurd q
-    by (got size used) e q = on (leb size (length s - used)) refl q
-      where
-        on : (f : Bool) → leb size (length s - used) ≡ f → LengthSettled (cond f (bytes used size) (lengthError pastEnd))
-            → lengthPrefix (s ++ t) ≡ lengthPrefix s
-        on true f u =
-            let v : varint (s ++ t) ≡ got size used = varint-local s t (rw e tt) ∙ e in
-            let more : size ≤ length (s ++ t) - used = omega (arith, length-append s t, leb-true size (length s - used) f) in
-            rw (v, e, f, le-leb size (length (s ++ t) - used) more)
-        on false f u = absurd u
+    by : (g : VarintResult) → varint s ≡ g → LengthSettled (lengthWithin s g) → lengthPrefix (s ++ t) ≡ lengthWithin s g
+    by bad e = λ q. absurd q
+    by (got size used) e =
+        choose (λ (r : LengthResult). LengthSettled r → lengthPrefix (s ++ t) ≡ r) (leb size (length s - used)) (bytes used size)
+        (lengthError pastEnd)
+        (λ fits q.
+        let v : varint (s ++ t) ≡ got size used = varint-local s t (rw e tt) ∙ e in
+        let more : size ≤ length (s ++ t) - used = omega (arith, length-append s t, leb-true size (length s - used) fits) in
+        rw (v, le-leb size (length (s ++ t) - used) more))
+        (λ e q. absurd q)
 
 -- ---- values and groups that are skipped
 abbrev pub SkipSettled : SkipResult → Type 0
@@ -102,41 +106,34 @@ SkipSettled (skipError code) = Lasting code
 
 skipVarint-local : (s t : List ℕ) → SkipSettled (skipVarint s) → skipVarint (s ++ t) ≡ skipVarint s
 unfolding skipVarint
-skipVarint-local s t h = by (varint s) refl
-  where
-    by : (g : VarintResult) → varint s ≡ g → skipVarint (s ++ t) ≡ skipVarint s
-    by bad e = let z : skipVarint s ≡ skipError 10 = cc in absurd (not-ten (subst SkipSettled z h))
-    by (got v used) e = cc (varint-local s t (rw e tt))
+skipVarint-local s t =
+    varint-cases (λ (o : SkipResult). SkipSettled o → skipVarint (s ++ t) ≡ o) (λ (g : VarintResult). varint s ≡ g) (varint s) refl
+    (λ e h. absurd (not-ten h)) (λ v used e h. cc (varint-local s t (rw e tt)))
 
 skipFixed-local : (width : ℕ) (s t : List ℕ) → SkipSettled (skipFixed width s) → skipFixed width (s ++ t) ≡ skipFixed width s
 unfolding skipFixed
-skipFixed-local width s t h = by (leb width (length s)) refl h
-  where
-    by : (f : Bool) → leb width (length s) ≡ f → SkipSettled (cond f (skipped width) (skipError pastEnd))
-        → skipFixed width (s ++ t) ≡ skipFixed width s
-    by true e q = rw (e, le-leb width (length (s ++ t)) (omega (arith, length-append s t, leb-true width (length s) e)))
-    by false e q = absurd (not-twelve q)
+skipFixed-local width s t =
+    choose (λ (o : SkipResult). SkipSettled o → skipFixed width (s ++ t) ≡ o) (leb width (length s)) (skipped width) (skipError pastEnd)
+    (λ e h. rw (le-leb width (length (s ++ t)) (omega (arith, length-append s t, leb-true width (length s) e))))
+    (λ e h. absurd (not-twelve h))
 
 length-codes : (s : List ℕ) (code : ℕ) → lengthPrefix s ≡ lengthError code → Lasting code → ⊥
-unfolding lengthPrefix within
+unfolding lengthPrefix lengthWithin
 length-codes s code e h = by (varint s) e
   where
-    by : (g : VarintResult) → within s g ≡ lengthError code → ⊥
+    by : (g : VarintResult) → lengthWithin s g ≡ lengthError code → ⊥
     by bad q = let z : code ≡ 10 = cc in not-ten (rw z at h)
     by (got size used) q = on (leb size (length s - used)) q
       where
         on : (f : Bool) → cond f (bytes used size) (lengthError pastEnd) ≡ lengthError code → ⊥
-        on true r = let z : _≡_ {A = ℕ} 0 1 = cc in omega arith
+        on true r = clash cc
         on false r = let z : code ≡ 12 = cc in not-twelve (rw z at h)
 
 skipBytes-local : (s t : List ℕ) → SkipSettled (skipBytes s) → skipBytes (s ++ t) ≡ skipBytes s
 unfolding skipBytes
-skipBytes-local s t h = by (lengthPrefix s) refl
-  where
-    by : (g : LengthResult) → lengthPrefix s ≡ g → skipBytes (s ++ t) ≡ skipBytes s
-    by (lengthError code) e =
-        let z : skipBytes s ≡ skipError code = cc in absurd (length-codes s code e (subst SkipSettled z h))
-    by (bytes used size) e = cc (lengthPrefix-local s t (rw e tt))
+skipBytes-local s t =
+    length-cases (λ (o : SkipResult). SkipSettled o → skipBytes (s ++ t) ≡ o) (λ (g : LengthResult). lengthPrefix s ≡ g) (lengthPrefix s)
+    refl (λ code e h. absurd (length-codes s code e h)) (λ used size e h. cc (lengthPrefix-local s t (rw e tt)))
 
 module _ (g : ℕ → ℕ → List ℕ → SkipResult) (t : List ℕ) where
   value-local : (n : ℕ) (w : WireType) (d : ℕ) (s : List ℕ) → ((m e : ℕ) → SkipSettled (g m e s) → g m e (s ++ t) ≡ g m e s)
@@ -151,44 +148,34 @@ module _ (g : ℕ → ℕ → List ℕ → SkipResult) (t : List ℕ) where
   value-local n I32 d s q h = skipFixed-local 4 s t h
   value-local n reserved d s q h = refl
 
-further-settled : (n : ℕ) (o : SkipResult) → SkipSettled (further n o) → SkipSettled o
-unfolding further
-further-settled n (skipped used) h = tt
-further-settled n (skipError code) h = h
+skipAfter-settled : (n : ℕ) (o : SkipResult) → SkipSettled (skipAfter n o) → SkipSettled o
+unfolding skipAfter
+skipAfter-settled n (skipped used) h = tt
+skipAfter-settled n (skipError code) h = h
 
 module _ (k : ℕ) (t : List ℕ)
     (q : (m e : ℕ) (z : List ℕ) → SkipSettled (groupIn k m e z) → groupIn k m e (z ++ t) ≡ groupIn k m e z)
     (n d : ℕ) (s : List ℕ) where
-  inGroup-local : SkipSettled (inGroup (groupIn k) n d s) → inGroup (groupIn k) n d (s ++ t) ≡ inGroup (groupIn k) n d s
+  abbrev Stays : SkipResult → Type 0
+  Stays o = SkipSettled o → inGroup (groupIn k) n d (s ++ t) ≡ o
+
+  inGroup-local : Stays (inGroup (groupIn k) n d s)
   unfolding inGroup
-  inGroup-local h = by (tag s) refl
-    where
-      by : (r : TagResult) → tag s ≡ r → inGroup (groupIn k) n d (s ++ t) ≡ inGroup (groupIn k) n d s
-      by ended e = let z : inGroup (groupIn k) n d s ≡ skipError 12 = cc in absurd (not-twelve (subst SkipSettled z h))
-      by (tagError code) e =
-          let z : inGroup (groupIn k) n d s ≡ skipError code = cc in
-          let l : Lasting code = subst SkipSettled z h in
-          cc (tag-local s t (rw e l))
-      by (field m w used) e =
-          let b : TagIn s (field m w used) = rw e at (tag-in s) in
-          let left : drop used (s ++ t) ≡ drop used s ++ t = drop-append-le used s t (b .1) in
-          on (eqb w 4) refl (value (groupIn k) m (wireType w) d (drop used s)) refl (tag-local s t (rw e tt)) b left
-        where
-          on : (f : Bool) → eqb w 4 ≡ f → (o : SkipResult) → value (groupIn k) m (wireType w) d (drop used s) ≡ o
-              → tag (s ++ t) ≡ tag s → TagIn s (field m w used) → drop used (s ++ t) ≡ drop used s ++ t
-              → inGroup (groupIn k) n d (s ++ t) ≡ inGroup (groupIn k) n d s
-          on true f o v u b left = cc
-          on false f (skipError code) v u b left =
-              let z : inGroup (groupIn k) n d s ≡ skipError code = cc in
-              let l : Lasting code = subst SkipSettled z h in
-              cc (value-local (groupIn k) t m (wireType w) d (drop used s) (λ x y. q x y (drop used s)) (rw v l))
-          on false f (skipped size) v u b left =
-              let z : inGroup (groupIn k) n d s ≡ further (used + size) (groupIn k n d (drop (used + size) s)) = cc in
-              let l : SkipSettled (groupIn k n d (drop (used + size) s)) =
-              further-settled (used + size) (groupIn k n d (drop (used + size) s)) (subst SkipSettled z h) in
-              let i : SkipIn (drop used s) (skipped size) = subst (SkipIn (drop used s)) v (skipValue-in k m (wireType w) d (drop used s)) in
-              let there : drop (used + size) (s ++ t) ≡ drop (used + size) s ++ t = drop-append-le (used + size) s t (omega (arith, length-drop used s)) in
-              cc (value-local (groupIn k) t m (wireType w) d (drop used s) (λ x y. q x y (drop used s)) (rw v tt), q n d (drop (used + size) s) l)
+  inGroup-local =
+      tag-cases Stays (λ (r : TagResult). tag s ≡ r) (tag s) refl (λ e h. absurd (not-twelve h)) (λ code e h. cc (tag-local s t (rw e h)))
+      (λ m w used e.
+      let b : TagIn s (field m w used) = subst (TagIn s) e (tag-in s) in
+      let u : tag (s ++ t) ≡ tag s = tag-local s t (rw e tt) in
+      let left : drop used (s ++ t) ≡ drop used s ++ t = drop-append-le used s t (b .1) in
+      let one : SkipResult = value (groupIn k) m (wireType w) d (drop used s) in
+      let inner = value-local (groupIn k) t m (wireType w) d (drop used s) (λ x y. q x y (drop used s)) in
+      flag-cases Stays (λ (f : Bool). eqb w 4 ≡ f) (eqb w 4) refl (λ f h. cc) (λ f.
+      skip-cases Stays (λ (o : SkipResult). one ≡ o) one refl (λ code v h. cc (inner (rw v h))) (λ size v h.
+      let l = skipAfter-settled (used + size) (groupIn k n d (drop (used + size) s)) h in
+      let i : SkipIn (drop used s) (skipped size) = subst (SkipIn (drop used s)) v (skipValue-in k m (wireType w) d (drop used s)) in
+      let there : drop (used + size) (s ++ t) ≡ drop (used + size) s ++ t =
+      drop-append-le (used + size) s t (omega (arith, length-drop used s)) in
+      cc (inner (rw v tt), q n d (drop (used + size) s) l))))
 
 groupIn-local : (k n d : ℕ) (s t : List ℕ) → SkipSettled (groupIn k n d s) → groupIn k n d (s ++ t) ≡ groupIn k n d s
 unfolding groupIn
@@ -216,7 +203,8 @@ FieldSettled (fixed32Field n v used) = Unit {0}
 FieldSettled (fieldError code) = Lasting code
 
 module _ (n : ℕ) (s t : List ℕ) where
-  fixed-local : (width : ℕ) (f : ℕ → FieldResult) → FieldSettled (cond (leb width (length s)) (f (littleEndian (take width s))) (fieldError pastEnd))
+  fixed-local : (width : ℕ) (f : ℕ → FieldResult)
+      → FieldSettled (cond (leb width (length s)) (f (littleEndian (take width s))) (fieldError pastEnd))
       → cond (leb width (length (s ++ t))) (f (littleEndian (take width (s ++ t)))) (fieldError pastEnd)
       ≡ cond (leb width (length s)) (f (littleEndian (take width s))) (fieldError pastEnd)
   fixed-local width f h = by (leb width (length s)) refl h
@@ -231,53 +219,38 @@ module _ (n : ℕ) (s t : List ℕ) where
 
   content-local : (w : WireType) → FieldSettled (content n w s) → content n w (s ++ t) ≡ content n w s
   unfolding content wireType
-  content-local VARINT h = by (varint s) refl
-    where
-      by : (g : VarintResult) → varint s ≡ g → content n VARINT (s ++ t) ≡ content n VARINT s
-      by bad e = let z : content n VARINT s ≡ fieldError 10 = cc in absurd (not-ten (subst FieldSettled z h))
-      by (got v used) e = cc (varint-local s t (rw e tt))
-  content-local I64 h = fixed-local 8 (λ (v : ℕ). fixed64Field n v 8) h
-  content-local LEN h = by (lengthPrefix s) refl
-    where
-      by : (g : LengthResult) → lengthPrefix s ≡ g → content n LEN (s ++ t) ≡ content n LEN s
-      by (lengthError code) e =
-          let z : content n LEN s ≡ fieldError code = cc in absurd (length-codes s code e (subst FieldSettled z h))
-      by (bytes used size) e = cc (lengthPrefix-local s t (rw e tt))
-  content-local SGROUP h = by (skipValue n 3 32 s) refl
-    where
-      by : (o : SkipResult) → skipValue n 3 32 s ≡ o → content n SGROUP (s ++ t) ≡ content n SGROUP s
-      by (skipError code) e =
-          let z : content n SGROUP s ≡ fieldError code = cc in
-          let l : Lasting code = subst FieldSettled z h in
-          cc (skipValue-local n 3 32 s t (rw e l))
-      by (skipped used) e = cc (skipValue-local n 3 32 s t (rw e tt))
-  content-local EGROUP h = refl
-  content-local I32 h = fixed-local 4 (λ (v : ℕ). fixed32Field n v 4) h
-  content-local reserved h = refl
+  content-local VARINT =
+      varint-cases (λ (x : FieldResult). FieldSettled x → content n VARINT (s ++ t) ≡ x) (λ (g : VarintResult). varint s ≡ g)
+      (varint s) refl
+      (λ e h. absurd (not-ten h)) (λ v used e h. cc (varint-local s t (rw e tt)))
+  content-local I64 = fixed-local 8 (λ (v : ℕ). fixed64Field n v 8)
+  content-local LEN =
+      length-cases (λ (x : FieldResult). FieldSettled x → content n LEN (s ++ t) ≡ x) (λ (g : LengthResult). lengthPrefix s ≡ g)
+      (lengthPrefix s) refl (λ code e h. absurd (length-codes s code e h)) (λ used size e h. cc (lengthPrefix-local s t (rw e tt)))
+  content-local SGROUP =
+      skip-cases (λ (x : FieldResult). FieldSettled x → content n SGROUP (s ++ t) ≡ x) (λ (o : SkipResult). skipValue n 3 32 s ≡ o)
+      (skipValue n 3 32 s) refl
+      (λ code e h. cc (skipValue-local n 3 32 s t (rw e h))) (λ used e h. cc (skipValue-local n 3 32 s t (rw e tt)))
+  content-local EGROUP = λ h. refl
+  content-local I32 = fixed-local 4 (λ (v : ℕ). fixed32Field n v 4)
+  content-local reserved = λ h. refl
 
-behind-settled : (n : ℕ) (f : FieldResult) → FieldSettled (behind n f) → FieldSettled f
-unfolding behind
-behind-settled n noField h = h
-behind-settled n (varintField m v used) h = tt
-behind-settled n (fixed64Field m v used) h = tt
-behind-settled n (bytesField m used size) h = tt
-behind-settled n (groupField m used) h = tt
-behind-settled n (fixed32Field m v used) h = tt
-behind-settled n (fieldError code) h = h
+fieldAfter-settled : (n : ℕ) (f : FieldResult) → FieldSettled (fieldAfter n f) → FieldSettled f
+unfolding fieldAfter
+fieldAfter-settled n noField h = h
+fieldAfter-settled n (varintField m v used) h = tt
+fieldAfter-settled n (fixed64Field m v used) h = tt
+fieldAfter-settled n (bytesField m used size) h = tt
+fieldAfter-settled n (groupField m used) h = tt
+fieldAfter-settled n (fixed32Field m v used) h = tt
+fieldAfter-settled n (fieldError code) h = h
 
 pub nextField-local : (s t : List ℕ) → FieldSettled (nextField s) → nextField (s ++ t) ≡ nextField s
 unfolding nextField
-nextField-local s t h = by (tag s) refl
-  where
-    by : (r : TagResult) → tag s ≡ r → nextField (s ++ t) ≡ nextField s
-    by ended e = let z : nextField s ≡ noField = cc in absurd (subst FieldSettled z h)
-    by (tagError code) e =
-        let z : nextField s ≡ fieldError code = cc in
-        let l : Lasting code = subst FieldSettled z h in
-        cc (tag-local s t (rw e l))
-    by (field n w used) e =
-        let b : TagIn s (field n w used) = rw e at (tag-in s) in
-        let left : drop used (s ++ t) ≡ drop used s ++ t = drop-append-le used s t (b .1) in
-        let z : nextField s ≡ behind used (content n (wireType w) (drop used s)) = cc in
-        let l : FieldSettled (content n (wireType w) (drop used s)) = behind-settled used (content n (wireType w) (drop used s)) (subst FieldSettled z h) in
-        cc (tag-local s t (rw e tt), content-local n (drop used s) t (wireType w) l)
+nextField-local s t =
+    tag-cases (λ (x : FieldResult). FieldSettled x → nextField (s ++ t) ≡ x) (λ (r : TagResult). tag s ≡ r) (tag s) refl
+    (λ e h. absurd h) (λ code e h. cc (tag-local s t (rw e h))) (λ n w used e h.
+    let l = fieldAfter-settled used (content n (wireType w) (drop used s)) h in
+    let b : TagIn s (field n w used) = subst (TagIn s) e (tag-in s) in
+    let left : drop used (s ++ t) ≡ drop used s ++ t = drop-append-le used s t (b .1) in
+    cc (tag-local s t (rw e tt), content-local n (drop used s) t (wireType w) l))

@@ -1,22 +1,19 @@
 -- A part of a slice: its length, its first byte, and what is left of it further on.
-use Prim.Native.Nat.{ℕ, zero, suc, pred, _+_, _-_, _<_, _≤_, min}
-use mathlib.Core.Path.{_≡_, refl, sym, _∙_}
+use Prim.Native.Nat.{ℕ, suc, pred, _+_, _-_, _<_, _≤_, min}
+use mathlib.Core.Path.{_≡_, _∙_}
 use mathlib.Core.List.{List, [], _∷_, _++_}
 use lib.ListN.{length, take, drop, getD, length-take, length-drop}
-use lib.Seq.{drop-cons, drop-drop, take-nil, drop-nil, take-add, take-take, take-all}
+use lib.Seq.{drop-cons, drop-drop, take-add, take-take, take-all}
 use native.Mathlib.Omega.{arith}
+use Rattle.laws.proofs.Lists.{empty, drop-take, tail-all}
 use Rattle.wire_read.specs.Part.{part}
 
 pub part-length : (s : List ℕ) (at end : ℕ) → length (part s at end) ≡ min end (length s) - at
 part-length s at end = simp (length-take, length-drop) (omega arith)
 
-pub no-bytes : (s : List ℕ) → length s ≤ 0 → s ≡ []
-no-bytes [] h = refl
-no-bytes (b ∷ s) h = let z : ⊥ = omega arith in absurd z
-
 -- at or past its end a part has no byte
 pub part-empty : (s : List ℕ) (at end : ℕ) → min end (length s) ≤ at → part s at end ≡ []
-part-empty s at end h = no-bytes (part s at end) (omega (arith, part-length s at end))
+part-empty s at end h = empty (part s at end) (omega (arith, part-length s at end))
 
 pub part-cons : (s : List ℕ) (at end : ℕ) → at < min end (length s) → part s at end ≡ getD s at 0 ∷ part s (suc at) end
 part-cons s at end h =
@@ -24,24 +21,15 @@ part-cons s at end h =
     let some : at < length s = omega arith in
     rw (one, drop-cons s at 0 some)
 
-drop-take : (n m : ℕ) (l : List ℕ) → drop n (take m l) ≡ take (m - n) (drop n l)
-drop-take zero m l = let e : m - 0 ≡ m = omega arith in rw e
-drop-take (suc n) zero l = let e : 0 - suc n ≡ 0 = omega arith in rw e (drop-nil (suc n))
-drop-take (suc n) (suc m) [] = sym (take-nil (suc m - suc n))
-drop-take (suc n) (suc m) (b ∷ l) = let e : suc m - suc n ≡ m - n = omega arith in rw e (drop-take n m l)
-
--- what is left of a part behind `n` bytes is the part that starts there
+-- what is left of a part after `n` bytes is the part that starts there
 pub part-drop : (s : List ℕ) (at end n : ℕ) → drop n (part s at end) ≡ part s (at + n) end
 part-drop s at end n =
     let e : end - at - n ≡ end - (at + n) = omega arith in
     drop-take n (end - at) (drop at s) ∙ rw (drop-drop n at s, e)
 
 -- a part that starts further on is shorter
-less-left : (stop i j : ℕ) → i < j → i < stop → stop - j ≤ pred (stop - i)
-less-left stop i j h k = omega arith
-
 pub part-shorter : (s : List ℕ) (i j end : ℕ) → i < j → i < min end (length s) → length (part s j end) ≤ pred (length (part s i end))
-part-shorter s i j end h k = rw (part-length s j end, part-length s i end) (less-left (min end (length s)) i j h k)
+part-shorter s i j end h k = omega (arith, part-length s j end, part-length s i end)
 
 -- a part that ends later is the part and what follows it
 pub part-append : (s : List ℕ) (at mid end : ℕ) → at ≤ mid → mid ≤ end → part s at end ≡ part s at mid ++ part s mid end
@@ -61,3 +49,7 @@ part-inner s at end start size h k =
 -- the part from the first place to the last is the slice
 pub part-all : (s : List ℕ) (end : ℕ) → length s ≤ end → part s 0 end ≡ s
 part-all s end h = take-all (end - 0) s (omega arith)
+
+-- the part that ends with the slice is what is left of it
+pub part-rest : (s : List ℕ) (at : ℕ) → part s at (length s) ≡ drop at s
+part-rest s at = tail-all at s

@@ -8,7 +8,8 @@ use Rattle.wire_read.specs.Part.{part}
 use Rattle.wire_read.specs.Varint.{got, varint}
 use Rattle.wire_read.specs.Tags.{field, tag, bytes, lengthPrefix}
 use Rattle.wire_read.specs.Skipping.{SkipResult, skipped}
-use Rattle.wire_read.specs.Fields.{FieldResult, noField, varintField, fixed64Field, bytesField, groupField, fixed32Field, fieldError, nextField}
+use Rattle.wire_read.specs.Fields.{FieldResult, noField, varintField, fixed64Field, bytesField, groupField, fixed32Field}
+use Rattle.wire_read.specs.Fields.{fieldError, nextField}
 use Rattle.wire_read.specs.Placed.{varintAt, tagAt, lengthAt, skipAt, fieldAt}
 use Rattle.wire_read.specs.declared.Varint.{Varint}
 use Rattle.wire_read.specs.declared.Varint.the-variants as varints
@@ -43,7 +44,8 @@ module _ (s : List ℕ) (at end : ℕ) where
       → (at < start) × (start + size ≤ min end (length s))
   bytes-place r p start size e =
       let g = is-bytes at (lengthPrefix (part s at end)) p e in
-      let b : LengthIn (part s at end) (bytes (start - at) size) = subst (LengthIn (part s at end)) (g .0) (lengthPrefix-in (part s at end)) in
+      let b : LengthIn (part s at end) (bytes (start - at) size) =
+      subst (LengthIn (part s at end)) (g .0) (lengthPrefix-in (part s at end)) in
       (omega arith, omega (arith, part-length s at end))
 
   -- of whatever was skipped

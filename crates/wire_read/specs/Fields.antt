@@ -4,12 +4,13 @@ use mathlib.Core.Bool.{cond}
 use mathlib.Core.List.{List, [], _∷_}
 use lib.ListN.{length, take, drop}
 use lib.Dec.{leb}
-use Rattle.wire_read.specs.Errors.{badVarint, badTag, pastEnd}
+use Rattle.refusals.specs.Numbers.{badVarint, badTag, pastEnd}
 use Rattle.wire_read.specs.Varint.{got, bad, varint}
-use Rattle.wire_read.specs.Tags.{WireType, VARINT, I64, LEN, SGROUP, EGROUP, I32, reserved, wireType, field, ended, tagError, tag, bytes, lengthError, lengthPrefix}
+use Rattle.wire_read.specs.Tags.{WireType, VARINT, I64, LEN, SGROUP, EGROUP, I32, reserved, wireType, field, noTag, tagError, tag}
+use Rattle.wire_read.specs.Tags.{bytes, lengthError, lengthPrefix}
 use Rattle.wire_read.specs.Skipping.{skipped, skipError, value, groupIn, maxDepth}
 
--- The field's number, what it holds and how many bytes it took; of bytes, how many stand before them and how many they are.
+-- The field's number, what it holds and how many bytes it took; of bytes, how many come before them and how many they are.
 -- Or the part is at its end; or the error code.
 pub data FieldResult : Type 0 where
   noField : FieldResult
@@ -25,7 +26,7 @@ unfoldable pub littleEndian : List ℕ → ℕ
 littleEndian [] = 0
 littleEndian (b ∷ s) = b + 256 * littleEndian s
 
--- what stands behind the tag of field `n`
+-- what comes after the tag of field `n`
 unfoldable pub content : ℕ → WireType → List ℕ → FieldResult
 content n VARINT s = elim (varint s) [ bad ↦ fieldError badVarint | got v used ↦ varintField n v used ]
 content n I64 s = cond (leb 8 (length s)) (fixed64Field n (littleEndian (take 8 s)) 8) (fieldError pastEnd)
@@ -39,20 +40,20 @@ content n I32 s = cond (leb 4 (length s)) (fixed32Field n (littleEndian (take 4 
 content n reserved s = fieldError badTag
 
 -- a field whose tag took `n` bytes
-unfoldable pub behind : ℕ → FieldResult → FieldResult
-behind n noField = noField
-behind n (varintField number v used) = varintField number v (n + used)
-behind n (fixed64Field number v used) = fixed64Field number v (n + used)
-behind n (bytesField number used size) = bytesField number (n + used) size
-behind n (groupField number used) = groupField number (n + used)
-behind n (fixed32Field number v used) = fixed32Field number v (n + used)
-behind n (fieldError code) = fieldError code
+unfoldable pub fieldAfter : ℕ → FieldResult → FieldResult
+fieldAfter n noField = noField
+fieldAfter n (varintField number v used) = varintField number v (n + used)
+fieldAfter n (fixed64Field number v used) = fixed64Field number v (n + used)
+fieldAfter n (bytesField number used size) = bytesField number (n + used) size
+fieldAfter n (groupField number used) = groupField number (n + used)
+fieldAfter n (fixed32Field number v used) = fixed32Field number v (n + used)
+fieldAfter n (fieldError code) = fieldError code
 
 -- "at each place tag 10, 11, 13, value 10, 12"
 unfoldable pub nextField : List ℕ → FieldResult
 nextField s =
     elim (tag s) [
-      | ended ↦ noField
+      | noTag ↦ noField
       | tagError code ↦ fieldError code
-      | field n w used ↦ behind used (content n (wireType w) (drop used s))
+      | field n w used ↦ fieldAfter used (content n (wireType w) (drop used s))
     ]

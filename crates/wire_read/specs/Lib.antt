@@ -1,5 +1,4 @@
--- What the contracts of `wire` cite, in the order of document 01, "Fields (Protobuf encoding)".
-pub mod Errors
+-- What the contracts of `wire_read` cite, in the order of document 01, "Fields (Protobuf encoding)".
 pub mod Part
 pub mod Varint
 pub mod Tags

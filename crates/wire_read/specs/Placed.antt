@@ -1,8 +1,8 @@
 -- What the answers of the code say: for each case the paper's number and values, as places of the slice. The reading starts at place `at`.
 use Prim.Native.Nat.{ℕ, _+_}
-use Rattle.wire_read.specs.Errors.{badVarint}
+use Rattle.refusals.specs.Numbers.{badVarint}
 use Rattle.wire_read.specs.Varint.{VarintResult, got, bad}
-use Rattle.wire_read.specs.Tags.{TagResult, field, ended, tagError, LengthResult, bytes, lengthError}
+use Rattle.wire_read.specs.Tags.{TagResult, field, noTag, tagError, LengthResult, bytes, lengthError}
 use Rattle.wire_read.specs.Skipping.{SkipResult, skipped, skipError}
 use Rattle.wire_read.specs.Fields.{FieldResult, noField, varintField, fixed64Field, bytesField, groupField, fixed32Field, fieldError}
 use Rattle.wire_read.specs.declared.Varint.{Varint}
@@ -22,7 +22,7 @@ varintAt at bad = varints.Refused badVarint
 
 unfoldable pub tagAt : ℕ → TagResult → Tag
 tagAt at (field n w used) = tags.Field n w (at + used)
-tagAt at ended = tags.End
+tagAt at noTag = tags.End
 tagAt at (tagError code) = tags.Refused code
 
 unfoldable pub lengthAt : ℕ → LengthResult → Length

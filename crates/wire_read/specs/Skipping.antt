@@ -4,9 +4,10 @@ use mathlib.Core.Bool.{true, false, cond}
 use mathlib.Core.List.{List}
 use lib.ListN.{length, drop}
 use lib.Dec.{leb, eqb}
-use Rattle.wire_read.specs.Errors.{badVarint, badTag, pastEnd, tooDeep}
+use Rattle.refusals.specs.Numbers.{badVarint, badTag, pastEnd, tooDeep}
 use Rattle.wire_read.specs.Varint.{got, bad, varint}
-use Rattle.wire_read.specs.Tags.{WireType, VARINT, I64, LEN, SGROUP, EGROUP, I32, reserved, wireType, field, ended, tagError, tag, bytes, lengthError, lengthPrefix}
+use Rattle.wire_read.specs.Tags.{WireType, VARINT, I64, LEN, SGROUP, EGROUP, I32, reserved, wireType, field, noTag, tagError, tag}
+use Rattle.wire_read.specs.Tags.{bytes, lengthError, lengthPrefix}
 
 -- How many bytes were passed over; or the error code.
 pub data SkipResult : Type 0 where
@@ -14,9 +15,9 @@ pub data SkipResult : Type 0 where
   skipError : (code : ℕ) → SkipResult
 
 -- what follows `n` bytes that were passed over
-unfoldable pub further : ℕ → SkipResult → SkipResult
-further n (skipped used) = skipped (n + used)
-further n (skipError code) = skipError code
+unfoldable pub skipAfter : ℕ → SkipResult → SkipResult
+skipAfter n (skipped used) = skipped (n + used)
+skipAfter n (skipError code) = skipError code
 
 -- a varint
 unfoldable pub skipVarint : List ℕ → SkipResult
@@ -31,9 +32,8 @@ unfoldable pub skipBytes : List ℕ → SkipResult
 skipBytes s =
     elim (lengthPrefix s) [ lengthError code ↦ skipError code | bytes used size ↦ skipped (used + size) ]
 
--- The value behind the tag of field `n`. `depth` more groups may be opened, and one more is 13. A wire type that has no value is a bad tag: a group end
--- that ends no group is stray.
--- `group n depth s` passes over what is left of an opened group of number `n`.
+-- The value after the tag of field `n`. `depth` more groups may be opened, and one more is 13. A wire type that has no value is a bad
+-- tag: a group end that ends no group is stray. `group n depth s` passes over what is left of an opened group of number `n`.
 unfoldable pub value : (ℕ → ℕ → List ℕ → SkipResult) → ℕ → WireType → ℕ → List ℕ → SkipResult
 value group n VARINT depth s = skipVarint s
 value group n I64 depth s = skipFixed 8 s
@@ -44,12 +44,12 @@ value group n EGROUP depth s = skipError badTag
 value group n I32 depth s = skipFixed 4 s
 value group n reserved depth s = skipError badTag
 
--- The first field of what is left of an opened group of number `n`, and what follows it: "A skipped group may hold fields and groups, nested to 32;
--- its end must bear its number." A group that is open at the end of its part is 12.
+-- The first field of what is left of an opened group of number `n`, and what follows it: "A skipped group may hold fields and groups,
+-- nested to 32; its end must bear its number." A group that is open at the end of its part is 12.
 unfoldable pub inGroup : (ℕ → ℕ → List ℕ → SkipResult) → ℕ → ℕ → List ℕ → SkipResult
 inGroup group n depth s =
     elim (tag s) [
-      | ended ↦ skipError pastEnd
+      | noTag ↦ skipError pastEnd
       | tagError code ↦ skipError code
       | field m w used ↦
           elim (eqb w 4) [
@@ -57,7 +57,7 @@ inGroup group n depth s =
             | false ↦
                 elim (value group m (wireType w) depth (drop used s)) [
                   | skipError code ↦ skipError code
-                  | skipped size ↦ further (used + size) (group n depth (drop (used + size) s))
+                  | skipped size ↦ skipAfter (used + size) (group n depth (drop (used + size) s))
                 ]
           ]
     ]
@@ -72,7 +72,7 @@ groupIn (suc steps) n depth s = inGroup (groupIn steps) n depth s
 abbrev pub skipGroup : ℕ → ℕ → List ℕ → SkipResult
 skipGroup n depth s = groupIn (length s) n depth s
 
--- The value behind a tag of field `n` and wire type number `w`.
+-- The value after a tag of field `n` and wire type number `w`.
 abbrev pub skipValue : ℕ → ℕ → ℕ → List ℕ → SkipResult
 skipValue n w depth s = value (groupIn (length s)) n (wireType w) depth s
 

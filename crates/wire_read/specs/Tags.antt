@@ -1,10 +1,10 @@
--- Tags, and the lengths that stand before bytes. `s` is what is left of the part.
+-- Tags, and the lengths that come before bytes. `s` is what is left of the part.
 use Prim.Native.Nat.{ℕ, zero, suc, _-_, _/_, _%_, _^_}
 use mathlib.Core.Bool.{cond, _&&_}
 use mathlib.Core.List.{List, [], _∷_}
 use lib.ListN.{length}
 use lib.Dec.{ltb, leb}
-use Rattle.wire_read.specs.Errors.{badVarint, badTag, pastEnd}
+use Rattle.refusals.specs.Numbers.{badVarint, badTag, pastEnd}
 use Rattle.wire_read.specs.Varint.{VarintResult, got, bad, varint}
 
 -- The wire types by the names of the Protobuf encoding guide.
@@ -26,10 +26,11 @@ wireType (suc (suc (suc (suc zero)))) = EGROUP
 wireType (suc (suc (suc (suc (suc zero))))) = I32
 wireType (suc (suc (suc (suc (suc (suc w)))))) = reserved
 
--- What a tag says: the field number, the number of the wire type and how many bytes the tag took; the part is at its end; or the error code.
+-- What a tag says: the field number, the number of the wire type and how many bytes the tag took; the part is at its end; or the error
+-- code.
 pub data TagResult : Type 0 where
   field : (number type used : ℕ) → TagResult
-  ended : TagResult
+  noTag : TagResult
   tagError : (code : ℕ) → TagResult
 
 -- "A tag is a varint up to 4,294,967,295: field number times 8 plus wire type. Field 0 and wire types 6, 7 are bad."
@@ -40,20 +41,20 @@ split (got v used) =
 
 -- the tag at the start of the part
 unfoldable pub tag : List ℕ → TagResult
-tag [] = ended
+tag [] = noTag
 tag (b ∷ s) = split (varint (b ∷ s))
 
--- How many bytes a length took, and how many bytes behind it it announces; or the error code.
+-- How many bytes a length took, and how many bytes after it it announces; or the error code.
 pub data LengthResult : Type 0 where
   bytes : (used size : ℕ) → LengthResult
   lengthError : (code : ℕ) → LengthResult
 
 -- a length that passes the end of the part is 12. The difference is never cut off: a varint takes no more bytes than there are
 -- (`varint-in`, proofs/Bounds).
-unfoldable pub within : List ℕ → VarintResult → LengthResult
-within s bad = lengthError badVarint
-within s (got size used) = cond (leb size (length s - used)) (bytes used size) (lengthError pastEnd)
+unfoldable pub lengthWithin : List ℕ → VarintResult → LengthResult
+lengthWithin s bad = lengthError badVarint
+lengthWithin s (got size used) = cond (leb size (length s - used)) (bytes used size) (lengthError pastEnd)
 
 -- the length at the start of the part
 unfoldable pub lengthPrefix : List ℕ → LengthResult
-lengthPrefix s = within s (varint s)
+lengthPrefix s = lengthWithin s (varint s)

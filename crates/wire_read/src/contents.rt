@@ -1,5 +1,4 @@
-// What stands behind a field's tag, by wire type.
-use crate::BAD_TAG;
+// What comes after a field's tag, by wire type.
 use crate::Field;
 use crate::Length;
 use crate::MAX_DEPTH;
@@ -11,6 +10,7 @@ use crate::read_length;
 use crate::read_varint;
 use crate::skip_value;
 use crate::skipping::skip_fixed;
+use refusals::BAD_TAG;
 ghost use mathlib.Core.Path.{_≡_};
 ghost use Rattle.wire_read.specs.Part.{part};
 ghost use Rattle.wire_read.specs.Tags.{VARINT, I64, LEN, SGROUP, I32, wireType};

@@ -12,6 +12,10 @@ mod skipping;
 use contents::content_at;
 use parts::part_end;
 use parts::wide;
+use refusals::BAD_TAG;
+use refusals::BAD_VARINT;
+use refusals::PAST_END;
+use refusals::TOO_DEEP;
 use skipping::skip_bytes;
 use skipping::skip_fixed;
 use skipping::skip_varint;
@@ -22,15 +26,6 @@ ghost use Rattle.wire_read.specs.Tags.{split, tag, lengthPrefix};
 ghost use Rattle.wire_read.specs.Skipping.{skipValue, skipGroup, skipField};
 ghost use Rattle.wire_read.specs.Fields.{nextField};
 ghost use Rattle.wire_read.specs.Placed.{varintAt, tagAt, lengthAt, skipAt, fieldAt};
-
-// 10: "varint bad or cut off"
-pub const BAD_VARINT: u32 = 10;
-// 11: "tag bad; group end stray or of another number"
-pub const BAD_TAG: u32 = 11;
-// 12: "a length, fixed value or open group passes the end of its part"
-pub const PAST_END: u32 = 12;
-// 13: "33rd nested group"
-pub const TOO_DEEP: u32 = 13;
 
 // A varint's value and the next place; or the error code.
 pub enum Varint {
@@ -51,7 +46,7 @@ pub enum Length {
     Refused(u32),
 }
 
-// The place behind what was skipped; or the error code.
+// The place after what was skipped; or the error code.
 pub enum Skip {
     Next(usize),
     Refused(u32),
@@ -126,7 +121,7 @@ fn split_tag(value: u64, next: usize) -> Tag
     Tag::Refused(BAD_TAG)
 }
 
-// The length at the start of the part, and the bytes behind it.
+// The length at the start of the part, and the bytes after it.
 pub fn read_length(s: &[u8], at: usize, end: usize) -> Length
     ensures { λ r. ⌜ r ≡ lengthAt at (lengthPrefix (part (now (s .entry)) at end)) ⌝ }
 {
@@ -148,7 +143,7 @@ pub fn read_length(s: &[u8], at: usize, end: usize) -> Length
 // "nested to 32"
 const MAX_DEPTH: u32 = 32;
 
-// Skips the value at the start of the part, which stands behind a tag of this field number and wire
+// Skips the value at the start of the part, which comes after a tag of this field number and wire
 // type. `depth` more groups may be opened, and at most 32. A wire type that has no value is a bad tag:
 // 4, a stray group end, and all from 6.
 pub fn skip_field(s: &[u8], at: usize, end: usize, number: u32, wire_type: u32, depth: u32) -> Skip

@@ -1,11 +1,11 @@
 // Values that are skipped and hold no other field.
 use crate::Length;
-use crate::PAST_END;
 use crate::Skip;
 use crate::Varint;
 use crate::parts::part_end;
 use crate::read_length;
 use crate::read_varint;
+use refusals::PAST_END;
 ghost use mathlib.Core.Path.{_≡_};
 ghost use Prim.Native.Nat.{_<_};
 ghost use Rattle.wire_read.specs.Part.{part};

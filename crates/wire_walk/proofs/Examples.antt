@@ -3,9 +3,9 @@ use Prim.Native.Nat.{ℕ}
 use mathlib.Core.Path.{_≡_, refl}
 use mathlib.Core.List.{List, [], _∷_, map}
 use Rattle.wire_read.specs.Varint.{joined, groups, varint}
-use Rattle.wire_read.specs.Tags.{wireType, split, tag, within, lengthPrefix}
-use Rattle.wire_read.specs.Skipping.{further, skipVarint, skipFixed, skipBytes, value, inGroup, groupIn}
-use Rattle.wire_read.specs.Fields.{littleEndian, content, behind, nextField}
+use Rattle.wire_read.specs.Tags.{wireType, split, tag, lengthWithin, lengthPrefix}
+use Rattle.wire_read.specs.Skipping.{skipAfter, skipVarint, skipFixed, skipBytes, value, inGroup, groupIn}
+use Rattle.wire_read.specs.Fields.{littleEndian, content, fieldAfter, nextField}
 use Rattle.wire_read.specs.Placed.{fieldAt}
 use Rattle.wire_read.specs.declared.Field.{Field}
 use Rattle.wire_read.specs.declared.Field.the-variants as fields
@@ -30,7 +30,7 @@ rows =
       tag = 32;
       last = fields.Varint 4 7 4;
     }
-    -- field 4 with another wire type behind it is skipped
+    -- field 4 with another wire type after it is skipped
     ∷ record {
       bytes = 0x20 ∷ 0x05 ∷ 0x22 ∷ 0x01 ∷ 0x07 ∷ [];
       answers = fields.Varint 4 5 2 ∷ fields.Bytes 4 4 1 ∷ fields.End ∷ [];
@@ -48,9 +48,11 @@ rows =
     ∷ []
 
 rows-walked : map (λ (r : Row). placed 0 (walk (r .bytes))) rows ≡ map (λ (r : Row). r .answers) rows
-unfolding rows walk walkIn onward placed usedBy fieldAt nextField behind content littleEndian tag split wireType varint groups joined within lengthPrefix value inGroup groupIn further skipVarint skipFixed skipBytes
+unfolding rows walk walkIn onward placed usedBy fieldAt nextField fieldAfter content littleEndian tag split wireType varint groups joined
+    lengthWithin lengthPrefix value inGroup groupIn skipAfter skipVarint skipFixed skipBytes
 rows-walked = refl
 
 rows-found : map (λ (r : Row). lastField (r .tag) (r .bytes)) rows ≡ map (λ (r : Row). r .last) rows
-unfolding rows lastField lastOf replaces walk walkIn onward placed usedBy fieldAt nextField behind content littleEndian tag split wireType varint groups joined within lengthPrefix value inGroup groupIn further skipVarint skipFixed skipBytes
+unfolding rows lastField lastOf walk walkIn onward placed usedBy fieldAt nextField fieldAfter content littleEndian tag split
+    wireType varint groups joined lengthWithin lengthPrefix value inGroup groupIn skipAfter skipVarint skipFixed skipBytes
 rows-found = refl

@@ -1,7 +1,8 @@
 -- "The last occurrence of a field wins; absent is 0 or empty."
 --
--- It promises that `last_field` answers the last of the fields with the tag, whatever stands before it, where none behind it has the tag and the walk is not
--- refused; the refusal where it is; and `End` where there is neither. The terms are those of its contract, `lastField`.
+-- It promises that `last_field` answers the last of the fields with the tag, whatever comes before it, where none after it has the
+-- tag and the walk is not refused; the refusal where it is; and `End` where there is neither. The terms are those of its contract,
+-- `lastField`.
 --
 -- It does not say how a caller reads an absent field: that is the messages' (0 or empty).
 --
@@ -33,7 +34,8 @@ lastOf-wins tag found (x ∷ xs) f ys e h = lastOf-wins tag (cond (replaces tag 
 
 module _ (tag : ℕ) (s : List ℕ) where
   -- `f` has the tag, or is the refusal
-  pub last-wins : (xs : List Field) (f : Field) (ys : List Field) → placed 0 (walk s) ≡ xs ++ (f ∷ ys) → replaces tag f ≡ true → NoneOf tag ys
+  pub last-wins : (xs : List Field) (f : Field) (ys : List Field) → placed 0 (walk s) ≡ xs ++ (f ∷ ys) → replaces tag f ≡ true
+      → NoneOf tag ys
       → lastField tag s ≡ f
   unfolding lastField
   last-wins xs f ys split e h = ap (lastOf tag fields.End) split ∙ lastOf-wins tag fields.End xs f ys e h

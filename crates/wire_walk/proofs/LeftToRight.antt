@@ -1,12 +1,13 @@
 -- The walk with a reader.
 --
--- It promises, of any reader, whatever its bytes and its place, that calls of `next`, each on the reader that the one before answered, give the
--- fields of the bytes from its place on, from left to right, each with its place, then the end or the refusal; and that from there on the reader
--- stays and every call gives the same (`Walks`, in specs/Walk.antt). The terms are those of the contract of `next`, `nextOf`.
+-- It promises, of any reader, whatever its bytes and its place, that calls of `next`, each on the reader that the one before answered,
+-- give the fields of the bytes from its place on, from left to right, each with its place, then the end or the refusal; and that from
+-- there on the reader stays and every call gives the same (`Walks`, in specs/Walk.antt). The terms are those of the contract of `next`,
+-- `nextOf`.
 --
 -- It does not say what a field means to a message.
 --
--- It rules out a reader that leaves out a field or gives one twice (`fields`), and one that moves on behind the end or a refusal (`stays`).
+-- It rules out a reader that leaves out a field or gives one twice (`fields`), and one that moves on after the end or a refusal (`stays`).
 use Prim.Native.Nat.{ℕ, zero, suc, pred, _+_, _≤_}
 use mathlib.Core.Path.{_≡_, refl, sym, ap, subst, _∙_}
 use mathlib.Core.List.{List, [], _∷_}
@@ -18,7 +19,7 @@ use Rattle.wire_read.specs.Fields.{FieldResult, nextField}
 use Rattle.wire_read.specs.Placed.{fieldAt}
 use Rattle.wire_read.specs.declared.Field.{Field}
 use Rattle.wire_walk.specs.Reader.{usedBy, placeBehind, stepAt, readerOf, nextOf}
-use Rattle.wire_walk.specs.Walk.{walk, placed, bytesTaken, answered, after, Walks}
+use Rattle.wire_walk.specs.Walk.{walk, placed, bytesTaken, answersOf, after, Walks}
 use Rattle.wire_walk.specs.declared.FieldReader.{FieldReader}
 use Rattle.wire_walk.proofs.StepLaws.{used-in}
 use Rattle.wire_walk.proofs.WalkLaws.{walk-last, walk-more, walk-some}
@@ -52,7 +53,7 @@ module _ (r : FieldReader) where
       ap (after n) same ∙ at-rest e n
 
   walks-last : usedBy found ≡ 0 → Walks r (found ∷ [])
-  unfolding answered placed bytesTaken
+  unfolding answersOf placed bytesTaken
   walks-last e =
       record {
         fields = ap (λ (f : Field). f ∷ []) next-field;
@@ -60,15 +61,18 @@ module _ (r : FieldReader) where
       }
 
   walks-more : (w : List FieldResult) → length w ≡ suc (pred (length w)) → Walks (moved r (r .at + usedBy found)) w → Walks r (found ∷ w)
-  unfolding answered after placed bytesTaken stepAt placeBehind
+  unfolding answersOf after placed bytesTaken stepAt placeBehind
   walks-more w some h =
       record {
         fields = ap (λ (fs : List Field). fieldAt (r .at) found ∷ fs) (h .fields);
-        stays = λ n. let one : length w + n ≡ suc (pred (length w) + n) = omega arith in ap (λ (k : ℕ). after k r) one ∙ h .stays n ∙ ap (moved r) (omega arith);
+        stays =
+            λ n. let one : length w + n ≡ suc (pred (length w) + n) = omega arith in ap (λ (k : ℕ). after k r) one ∙ h .stays n
+            ∙ ap (moved r) (omega arith);
       }
 
-  -- `more` is the walk behind a field that was found
-  walks-by : (n : ℕ) → usedBy found ≡ n → ((m : ℕ) → n ≡ suc m → Walks (moved r (r .at + usedBy found)) (walk (drop (suc m) left))) → Walks r (walk left)
+  -- `more` is the walk after a field that was found
+  walks-by : (n : ℕ) → usedBy found ≡ n → ((m : ℕ) → n ≡ suc m → Walks (moved r (r .at + usedBy found)) (walk (drop (suc m) left)))
+      → Walks r (walk left)
   walks-by zero e more = subst (Walks r) (sym (walk-last left e)) (walks-last e)
   walks-by (suc m) e more =
       let rest = drop (suc m) left in

@@ -1,26 +1,23 @@
--- A step of the walk: what `wire::next_field` answers of the bytes from a place on, and where the next field starts.
+-- A step of the walk: what `wire_read::next_field` answers of the bytes from a place on, and where the next field starts.
 use Prim.Native.Nat.{ℕ, _+_, _-_, _<_, _≤_, min}
 use mathlib.Core.Path.{_≡_, refl, sym, ap, subst, _∙_}
 use mathlib.Core.List.{List}
 use lib.ListN.{length, take, drop, length-drop}
-use lib.Seq.{take-all}
 use native.Mathlib.Omega.{arith}
+use Rattle.laws.proofs.Lists.{drop-take}
 use Rattle.wire_read.specs.Part.{part}
-use Rattle.wire_read.specs.Fields.{FieldResult, noField, varintField, fixed64Field, bytesField, groupField, fixed32Field, fieldError, nextField}
+use Rattle.wire_read.specs.Fields.{FieldResult, noField, varintField, fixed64Field, bytesField, groupField, fixed32Field, fieldError}
+use Rattle.wire_read.specs.Fields.{nextField}
 use Rattle.wire_read.specs.Placed.{fieldAt}
 use Rattle.wire_read.specs.declared.Field.{Field}
 use Rattle.wire_read.specs.declared.Field.the-variants as fields
-use Rattle.wire_read.proofs.PartLaws.{part-drop}
+use Rattle.wire_read.proofs.PartLaws.{part-rest}
 use Rattle.wire_read.proofs.Bounds.{FieldIn, nextField-in}
 use Rattle.wire_read.proofs.Places.{Within, field-place}
 use Rattle.wire_walk.specs.Reader.{usedBy, placeBehind, stepAt}
 use Rattle.wire_walk.specs.declared.Step.{Step}
 
--- the part that ends with the bytes is what is left of them
-pub part-to-end : (s : List ℕ) (at : ℕ) → part s at (length s) ≡ drop at s
-part-to-end s at = take-all (length s - at) (drop at s) (omega (arith, length-drop at s))
-
--- the place behind an answer at place `at`
+-- the place after an answer at place `at`
 abbrev pub behindOf : ℕ → Field → ℕ
 behindOf at fields.End = at
 behindOf at (fields.Varint n v next) = next
@@ -42,11 +39,13 @@ behindOf-used at (fieldError code) = omega arith
 
 module _ (s : List ℕ) (at : ℕ) {r : Field} (is-r : r ≡ fieldAt at (nextField (part s at (length s)))) where
   -- in each of its cases, `q` a constructor with its values
-  pub step-is : {q x : Field} {next : ℕ} → r ≡ q → x ≡ r → behindOf at q ≡ next → _≡_ {A = Step} (record { field = x; at = next }) (stepAt s at)
+  pub step-is : {q x : Field} {next : ℕ} → r ≡ q → x ≡ r → behindOf at q ≡ next
+      → _≡_ {A = Step} (record { field = x; at = next }) (stepAt s at)
   unfolding stepAt placeBehind
   step-is {q = q} {x = x} {next = next} e same place =
-      let left : r ≡ fieldAt at (nextField (drop at s)) = subst (λ (l : List ℕ). r ≡ fieldAt at (nextField l)) (part-to-end s at) is-r in
-      let there : next ≡ at + usedBy (nextField (drop at s)) = sym place ∙ ap (behindOf at) (sym e ∙ left) ∙ behindOf-used at (nextField (drop at s)) in
+      let left : r ≡ fieldAt at (nextField (drop at s)) = subst (λ (l : List ℕ). r ≡ fieldAt at (nextField l)) (part-rest s at) is-r in
+      let there : next ≡ at + usedBy (nextField (drop at s)) =
+      sym place ∙ ap (behindOf at) (sym e ∙ left) ∙ behindOf-used at (nextField (drop at s)) in
       let found : x ≡ fieldAt at (nextField (drop at s)) = same ∙ left in
       rw (found, there)
 
@@ -74,11 +73,7 @@ pub place-within : (s : List ℕ) (at : ℕ) → at < placeBehind s at → place
 unfolding placeBehind
 place-within s at h = omega (arith, used-in (drop at s), length-drop at s)
 
--- a reader of the bytes up to place `end` finds what `wire::next_field` finds in the part that ends there
+-- a reader of the bytes up to place `end` finds what `wire_read::next_field` finds in the part that ends there
 pub step-of-part : (s : List ℕ) (at end : ℕ) → stepAt (take end s) at .field ≡ fieldAt at (nextField (part s at end))
 unfolding stepAt
-step-of-part s at end =
-    let from : 0 + at ≡ at = omega arith in
-    let size : end - 0 ≡ end = omega arith in
-    let left : drop at (take end s) ≡ part s at end = subst (λ (k : ℕ). drop at (take k s) ≡ part s at end) size (part-drop s 0 end at ∙ ap (λ (k : ℕ). part s k end) from) in
-    ap (λ (l : List ℕ). fieldAt at (nextField l)) left
+step-of-part s at end = ap (λ (l : List ℕ). fieldAt at (nextField l)) (drop-take at end s)

@@ -39,7 +39,8 @@ pub walk-last : (s : List ℕ) → usedBy (nextField s) ≡ 0 → walk s ≡ nex
 unfolding walk
 walk-last s e = walkIn-last (length s) s e
 
-walkIn-more : (k : ℕ) (s : List ℕ) → length s ≤ k → (n : ℕ) → usedBy (nextField s) ≡ suc n → walkIn k s ≡ nextField s ∷ walk (drop (suc n) s)
+walkIn-more : (k : ℕ) (s : List ℕ) → length s ≤ k → (n : ℕ) → usedBy (nextField s) ≡ suc n
+    → walkIn k s ≡ nextField s ∷ walk (drop (suc n) s)
 unfolding walkIn onward walk
 walkIn-more zero s h n e = let z : ⊥ = omega (arith, nothing-left s h) in absurd z
 walkIn-more (suc k) s h n e =
@@ -73,5 +74,6 @@ module _ (s : List ℕ) (at : ℕ) where
   answers-more h =
       let n : ℕ = pred (usedBy (nextField (drop at s))) in
       let some : usedBy (nextField (drop at s)) ≡ suc n = omega arith in
-      let rest : drop (usedBy (nextField (drop at s))) (drop at s) ≡ drop (at + usedBy (nextField (drop at s))) s = drop-drop (usedBy (nextField (drop at s))) at s in
+      let rest : drop (usedBy (nextField (drop at s))) (drop at s) ≡ drop (at + usedBy (nextField (drop at s))) s =
+      drop-drop (usedBy (nextField (drop at s))) at s in
       rw (walk-more (drop at s) n some, ← some, rest)

@@ -7,9 +7,9 @@ use Rattle.wire_read.specs.declared.Field.{Field}
 use Rattle.wire_read.specs.declared.Field.the-variants as fields
 use Rattle.wire_walk.specs.Walk.{walk, placed}
 
--- Whether a field takes the place of what was found before it: a field with this tag does, and so does a refusal. "An unknown field, or a known one with
--- another wire type, is skipped."
-unfoldable pub replaces : ℕ → Field → Bool
+-- Whether a field takes the place of what was found before it: a field with this tag does, and so does a refusal. "An unknown field, or
+-- a known one with another wire type, is skipped."
+abbrev pub replaces : ℕ → Field → Bool
 replaces tag fields.End = false
 replaces tag (fields.Varint n v after) = eqb (n * 8) tag
 replaces tag (fields.Fixed64 n v after) = eqb (n * 8 + 1) tag

@@ -3,7 +3,8 @@ use Prim.Native.Nat.{ℕ, _+_}
 use mathlib.Core.List.{List}
 use lib.ListN.{drop}
 use denote.Ref.{RefT, now}
-use Rattle.wire_read.specs.Fields.{FieldResult, noField, varintField, fixed64Field, bytesField, groupField, fixed32Field, fieldError, nextField}
+use Rattle.wire_read.specs.Fields.{FieldResult, noField, varintField, fixed64Field, bytesField, groupField, fixed32Field, fieldError}
+use Rattle.wire_read.specs.Fields.{nextField}
 use Rattle.wire_read.specs.Placed.{fieldAt}
 use Rattle.wire_walk.specs.declared.FieldReader.{FieldReader}
 use Rattle.wire_walk.specs.declared.Moved.{Moved}
@@ -19,11 +20,11 @@ usedBy (groupField n used) = used
 usedBy (fixed32Field n v used) = used
 usedBy (fieldError code) = 0
 
--- the place behind what stands at place `at` of the bytes, and `at` itself at their end, past it and where a field is refused
+-- the place after what is at place `at` of the bytes, and `at` itself at their end, past it and where a field is refused
 unfoldable pub placeBehind : List ℕ → ℕ → ℕ
 placeBehind s at = at + usedBy (nextField (drop at s))
 
--- what stands at place `at`, and the place behind it
+-- what is at place `at`, and the place after it
 unfoldable pub stepAt : List ℕ → ℕ → Step
 stepAt s at = record { field = fieldAt at (nextField (drop at s)); at = placeBehind s at }
 
@@ -31,7 +32,7 @@ stepAt s at = record { field = fieldAt at (nextField (drop at s)); at = placeBeh
 abbrev pub readerOf : RefT (List ℕ) → FieldReader
 readerOf s = record { bytes = s; at = 0 }
 
--- what a reader finds at its place, and the reader behind it, which refers to the same bytes
+-- what a reader finds at its place, and the reader after it, which refers to the same bytes
 abbrev pub nextOf : FieldReader → Moved
 nextOf r = record {
   field = stepAt (now (r .bytes)) (r .at) .field;

@@ -9,7 +9,7 @@ use Rattle.wire_read.specs.declared.Field.{Field}
 use Rattle.wire_walk.specs.Reader.{usedBy, nextOf}
 use Rattle.wire_walk.specs.declared.FieldReader.{FieldReader}
 
--- what follows a field that took `used` bytes: nothing behind the end or a refusal, which take none
+-- what follows a field that took `used` bytes: nothing after the end or a refusal, which take none
 unfoldable pub onward : (List ℕ → List FieldResult) → ℕ → List ℕ → List FieldResult
 onward go zero s = []
 onward go (suc used) s = go (drop (suc used) s)
@@ -24,7 +24,7 @@ walkIn (suc steps) s = nextField s ∷ onward (walkIn steps) (usedBy (nextField 
 unfoldable pub walk : List ℕ → List FieldResult
 walk s = walkIn (length s) s
 
--- the same as the code answers them, with their places: the first at place `at`, each behind the one before
+-- the same as the code answers them, with their places: the first at place `at`, each after the one before
 unfoldable pub placed : ℕ → List FieldResult → List Field
 placed at [] = []
 placed at (f ∷ fs) = fieldAt at f ∷ placed (at + usedBy f) fs
@@ -35,9 +35,9 @@ bytesTaken [] = 0
 bytesTaken (f ∷ fs) = usedBy f + bytesTaken fs
 
 -- what `n` calls of `next` answer, each on the reader that the one before moved
-unfoldable pub answered : ℕ → FieldReader → List Field
-answered zero r = []
-answered (suc n) r = nextOf r .field ∷ answered n (nextOf r .reader)
+unfoldable pub answersOf : ℕ → FieldReader → List Field
+answersOf zero r = []
+answersOf (suc n) r = nextOf r .field ∷ answersOf n (nextOf r .reader)
 
 -- and the reader after them
 unfoldable pub after : ℕ → FieldReader → FieldReader
@@ -47,7 +47,7 @@ after (suc n) r = after n (nextOf r .reader)
 -- The statement: calls of `next` from any reader walk the fields from its place on. `w` is the walk over what is left of its bytes.
 pub record Walks (r : FieldReader) (w : List FieldResult) : Type 0 where
   -- the calls answer the fields from left to right, each with its place, and then the end or the refusal
-  pub fields : answered (length w) r ≡ placed (r .at) w
+  pub fields : answersOf (length w) r ≡ placed (r .at) w
   -- from that last answer on the reader stays after the fields, with the same bytes, so every later call repeats it; there is one
   -- (`walk-some`)
   pub stays : (n : ℕ) → after (pred (length w) + n) r ≡ record { bytes = r .bytes; at = r .at + bytesTaken w }

@@ -16,13 +16,13 @@ pub struct FieldReader<'a> {
     pub at: usize,
 }
 
-// What a reader found at its place, and the reader behind it.
+// What a reader found at its place, and the reader after it.
 pub struct Moved<'a> {
     pub field: Field,
     pub reader: FieldReader<'a>,
 }
 
-// What stands at a place of the bytes, and the place behind it.
+// What is at a place of the bytes, and the place after it.
 pub struct Step {
     pub field: Field,
     pub at: usize,
@@ -36,7 +36,7 @@ impl<'a> FieldReader<'a> {
         FieldReader { bytes, at: 0 }
     }
 
-    // The field at the reader's place, and the reader behind it. At the end of the bytes, and where a
+    // The field at the reader's place, and the reader after it. At the end of the bytes, and where a
     // field is refused, the reader stays.
     pub fn next(self) -> Moved<'a>
         ensures { λ r. ⌜ r ≡ nextOf (self .entry) ⌝ }
@@ -51,7 +51,7 @@ impl<'a> FieldReader<'a> {
         }
     }
 
-    // The reader's place: how many bytes stand before it.
+    // The reader's place: how many bytes come before it.
     pub fn place(self) -> usize
         ensures { λ r. ⌜ r ≡ self .entry .at ⌝ }
     {

@@ -4,7 +4,7 @@ use wire_read::Field;
 ghost use mathlib.Core.Path.{_≡_};
 ghost use Rattle.wire_walk.specs.Reader.{stepAt};
 
-// The field at this place, and the place behind it.
+// The field at this place, and the place after it.
 pub(crate) fn step_at(bytes: &[u8], at: usize) -> Step
     ensures { λ r. ⌜ r ≡ stepAt (now (bytes .entry)) at ⌝ }
 {

@@ -7,8 +7,8 @@ use lib.Dec.{ltb}
 use native.Mathlib.Omega.{arith}
 use native.Mathlib.Nat.{div-lt-iff-lt-mul, le-div-iff-mul-le, pow-suc}
 use borrow.Author.Tests.{lt-ltb, le-ltb}
+use Rattle.laws.proofs.Booleans.{either}
 use Rattle.wire_write.specs.Writing.{shortest, putVarint}
-use Rattle.wire_read.proofs.Bounds.{either}
 
 pub shortest-last : (room v : ℕ) → v < 128 → shortest (suc room) v ≡ v ∷ []
 unfolding shortest

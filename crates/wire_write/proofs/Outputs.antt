@@ -1,14 +1,16 @@
--- What is stored in an output: one thing behind another is both at once, and whether there is room.
-use Prim.Native.Nat.{ℕ, suc, _+_, _≤_, _<_}
+-- What is stored in an output: one thing after another is both at once, and whether there is room.
+use Prim.Native.Nat.{ℕ, _+_, _≤_, _<_}
 use mathlib.Core.Path.{_≡_, refl, sym, _∙_}
 use mathlib.Core.Bool.{Bool, true, false, cond}
-use mathlib.Core.List.{List, [], _∷_, _++_}
+use mathlib.Core.List.{List, _++_}
 use lib.ListN.{length, take, drop, length-append}
-use lib.Dec.{leb}
 use lib.Seq.{sets, sets-eq, length-sets}
 use native.Mathlib.Omega.{arith}
 use borrow.Author.Tests.{le-leb, lt-leb, leb-true}
-use Rattle.wire_write.specs.Writing.{goodTag, fits, outputShort, firstGround, answer, stored, writtenAt, tagStored, tagWritten}
+use Rattle.refusals.specs.Numbers.{outputShort}
+use Rattle.laws.proofs.Lists.{sets-then}
+use Rattle.laws.proofs.Booleans.{clash, choose}
+use Rattle.wire_write.specs.Writing.{goodTag, fits, firstGround, answer, stored, writtenAt, tagStored, tagWritten}
 use Rattle.wire_write.specs.declared.Written.the-variants.{Next, Refused}
 
 -- byte by byte
@@ -18,16 +20,9 @@ stored-sets out at x h = rw (le-leb (at + length x) (length out) h) (sym (sets-e
 
 pub length-stored : (out : List ℕ) (at : ℕ) (x : List ℕ) → length (stored out at x) ≡ length out
 unfolding stored
-length-stored out at x = by (leb (at + length x) (length out)) refl
-  where
-    by : (b : Bool) → leb (at + length x) (length out) ≡ b
-        → length (cond b (take at out ++ x ++ drop (at + length x) out) out) ≡ length out
-    by true e = rw (sym (sets-eq x out at (leb-true (at + length x) (length out) e))) (length-sets out at x)
-    by false e = refl
-
-sets-then : (out : List ℕ) (at next : ℕ) (x y : List ℕ) → next ≡ at + length x → sets (sets out at x) next y ≡ sets out at (x ++ y)
-sets-then out at next [] y e = let z : next ≡ at = omega arith in rw z
-sets-then out at next (b ∷ x) y e = sets-then _ (suc at) next x y (omega arith)
+length-stored out at x =
+    choose (λ (l : List ℕ). length l ≡ length out) (fits out at x) (take at out ++ x ++ drop (at + length x) out) out
+    (λ e. rw (sym (sets-eq x out at (leb-true (at + length x) (length out) e))) (length-sets out at x)) (λ e. refl)
 
 pub stored-then : (out : List ℕ) (at : ℕ) (x y : List ℕ) → at + length x + length y ≤ length out
     → stored (stored out at x) (at + length x) y ≡ stored out at (x ++ y)
@@ -88,5 +83,5 @@ module _ (n w : ℕ) (out : List ℕ) (at : ℕ) (x : List ℕ) (good room : Boo
 pub accepted : (good room : Bool) (place next : ℕ) → answer (firstGround good room) place ≡ Next next
     → (good ≡ true) × (room ≡ true) × (place ≡ next)
 accepted true true place next e = (refl, refl, cc)
-accepted true false place next e = let z : _≡_ {A = ℕ} 0 1 = cc in let a : ⊥ = omega arith in absurd a
-accepted false room place next e = let z : _≡_ {A = ℕ} 0 1 = cc in let a : ⊥ = omega arith in absurd a
+accepted true false place next e = clash cc
+accepted false room place next e = clash cc

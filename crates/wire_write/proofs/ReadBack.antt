@@ -1,11 +1,12 @@
--- What was written reads back as itself, with exactly its length, whatever follows it and wherever it stands: a varint, a tag, a field of a number,
--- a field of bytes; a uint32 and an int32 of a varint. And a varint is written in as few bytes as any reading of that number takes.
--- A tag is refused with 11 exactly where the reader would refuse it with 11, or would read another number or wire type (`tag-told`,
--- `tag-exactly`).
+-- Promised: what was written reads back as itself, with exactly its length, whatever follows it and wherever it is: a varint, a tag, a
+-- field of a number, a field of bytes; a uint32 and an int32 of a varint. A varint is written in as few bytes as any reading of that
+-- number takes. A tag is refused with 11 exactly where the reader would refuse it with 11, or would read another number or wire type
+-- (`tag-told`, `tag-exactly`).
+-- Not promised: that bytes which were read are written as they were. A varint may be longer than needed when it is read.
 -- Ruled out: a writer that drops the bit of a tenth byte, one that writes -1 in five bytes, and one that writes a tag of field 0.
 use Prim.Native.Nat.{ℕ, zero, suc, _+_, _*_, _-_, _/_, _%_, _^_, _<_, _≤_}
 use mathlib.Core.Path.{_≡_, refl, sym, ap, ap₂, subst, _∙_}
-use mathlib.Core.Bool.{Bool, true, false, true≢false, cond, _&&_}
+use mathlib.Core.Bool.{Bool, true, false, cond, _&&_}
 use mathlib.Core.List.{List, [], _∷_, _++_, append-assoc}
 use lib.ListN.{length, take, drop, length-append}
 use lib.Seq.{take-at, drop-at}
@@ -16,12 +17,12 @@ use lib.Signed.{mag}
 use native.Mathlib.Omega.{arith}
 use native.Mathlib.Nat.{mod-lt, mod-eq-of-lt, div-add-mod'}
 use borrow.Author.Tests.{lt-ltb, le-ltb, le-leb, ne-eqb, ltb-true, ltb-false}
-use Rattle.wire_read.specs.Errors.{badTag}
+use Rattle.laws.proofs.Booleans.{clash, either, both, choose}
+use Rattle.refusals.specs.Numbers.{badTag}
 use Rattle.wire_read.specs.Varint.{VarintResult, got, bad, joined, groups, varint, lowU32, twosComplement, lowI32}
-use Rattle.wire_read.specs.Tags.{TagResult, VARINT, LEN, wireType, field, tagError, split, tag, bytes, within, lengthPrefix}
-use Rattle.wire_read.specs.Fields.{varintField, bytesField, content, behind, nextField}
+use Rattle.wire_read.specs.Tags.{VARINT, LEN, wireType, field, tagError, split, tag, bytes, lengthWithin, lengthPrefix}
+use Rattle.wire_read.specs.Fields.{varintField, bytesField, content, fieldAfter, nextField}
 use Rattle.wire_write.specs.Writing.{shortest, putVarint, signExtended, putTag, putBytes, goodTag}
-use Rattle.wire_read.proofs.Bounds.{either}
 use Rattle.wire_write.proofs.Encoding.{shortest-last, shortest-more, left-fits, varint-bounds, shortest-full}
 
 -- ---- varints
@@ -75,7 +76,7 @@ three-bits v used n w used′ e = by (ltb v (2 ^ 32) && (ltb 0 (v / 8) && ltb (v
   where
     by : (ok : Bool) → cond ok (field (v / 8) (v % 8) used) (tagError badTag) ≡ field n w used′ → w < 8
     by true g = let same : v % 8 ≡ w = cc in omega arith
-    by false g = let z : _≡_ {A = ℕ} 0 1 = cc in let a : ⊥ = omega arith in absurd a
+    by false g = clash cc
 
 module _ (n w : ℕ) (rest : List ℕ) (fits : n * 8 + w < 2 ^ 64) where
   tag-is : tag (putTag n w ++ rest) ≡ split (got (n * 8 + w) (length (putTag n w)))
@@ -97,7 +98,7 @@ module _ (n w : ℕ) (rest : List ℕ) (fits : n * 8 + w < 2 ^ 64) where
     where
       taken : (good : Bool) → cond good (field n w (length (putTag n w))) (tagError badTag) ≡ field n w used → good ≡ true
       taken true g = refl
-      taken false g = let z : _≡_ {A = ℕ} 0 1 = cc in let a : ⊥ = omega arith in absurd a
+      taken false g = clash cc
 
 -- field numbers 1 to 2^29 - 1 with the wire types 0 to 5
 module _ (n w : ℕ) (some : 0 < n) (high : n < 2 ^ 29) (known : w < 6) where
@@ -111,46 +112,48 @@ module _ (n w : ℕ) (some : 0 < n) (high : n < 2 ^ 29) (known : w < 6) where
 -- and no others
 pub good-numbers : (n w : ℕ) → goodTag n w ≡ true → (0 < n) × (n < 2 ^ 29) × (w < 6)
 unfolding goodTag
-good-numbers n w e = by (ltb (n * 8 + w) (2 ^ 32)) (ltb 0 n) (ltb w 6) refl refl refl e
-  where
-    by : (a b c : Bool) → ltb (n * 8 + w) (2 ^ 32) ≡ a → ltb 0 n ≡ b → ltb w 6 ≡ c → a && (b && c) ≡ true → (0 < n) × (n < 2 ^ 29) × (w < 6)
-    by true true true a b c e = (ltb-true 0 n b, omega (arith, ltb-true (n * 8 + w) (2 ^ 32) a), ltb-true w 6 c)
-    by true true false a b c e = let z : ⊥ = true≢false (sym e) in absurd z
-    by true false x a b c e = let z : ⊥ = true≢false (sym e) in absurd z
-    by false x y a b c e = let z : ⊥ = true≢false (sym e) in absurd z
+good-numbers n w e =
+    let a = both (ltb (n * 8 + w) (2 ^ 32)) (ltb 0 n && ltb w 6) e in
+    let b = both (ltb 0 n) (ltb w 6) (a .1) in
+    (ltb-true 0 n (b .0), omega (arith, ltb-true (n * 8 + w) (2 ^ 32) (a .0)), ltb-true w 6 (b .1))
 
 -- ---- fields
 
 pub lengthPrefix-back : (x rest : List ℕ) → length x < 2 ^ 64
     → lengthPrefix (putVarint (length x) ++ (x ++ rest)) ≡ bytes (length (putVarint (length x))) (length x)
-unfolding lengthPrefix within
+unfolding lengthPrefix lengthWithin
 lengthPrefix-back x rest h =
     let fits : length x ≤ length (putVarint (length x) ++ (x ++ rest)) - length (putVarint (length x)) =
     omega (arith, length-append (putVarint (length x)) (x ++ rest), length-append x rest) in
-    rw (varint-back (length x) (x ++ rest) h, le-leb (length x) (length (putVarint (length x) ++ (x ++ rest)) - length (putVarint (length x))) fits)
+    rw (
+      varint-back (length x) (x ++ rest) h,
+      le-leb (length x) (length (putVarint (length x) ++ (x ++ rest)) - length (putVarint (length x))) fits,
+    )
 
 module _ (n : ℕ) (some : 0 < n) (high : n < 2 ^ 29) where
-  next-back : (w : ℕ) → w < 6 → (rest : List ℕ) → nextField (putTag n w ++ rest) ≡ behind (length (putTag n w)) (content n (wireType w) rest)
+  next-back : (w : ℕ) → w < 6 → (rest : List ℕ)
+      → nextField (putTag n w ++ rest) ≡ fieldAfter (length (putTag n w)) (content n (wireType w) rest)
   unfolding nextField
   next-back w known rest =
       let t = tag-back n w some high known rest in
       let d : drop (length (putTag n w)) (putTag n w ++ rest) ≡ rest = drop-at (putTag n w) rest (length (putTag n w)) refl in
-      let z : nextField (putTag n w ++ rest) ≡ behind (length (putTag n w)) (content n (wireType w) (drop (length (putTag n w)) (putTag n w ++ rest))) = cc in
+      let z : nextField (putTag n w ++ rest) ≡ fieldAfter (length (putTag n w))
+      (content n (wireType w) (drop (length (putTag n w)) (putTag n w ++ rest))) = cc in
       z ∙ rw d
 
   -- a field of a number
   pub varintField-back : (v : ℕ) (rest : List ℕ) → v < 2 ^ 64
       → nextField (putTag n 0 ++ (putVarint v ++ rest)) ≡ varintField n v (length (putTag n 0) + length (putVarint v))
-  unfolding content behind wireType
+  unfolding content fieldAfter wireType
   varintField-back v rest h =
       let r = varint-back v rest h in
       let z : content n VARINT (putVarint v ++ rest) ≡ varintField n v (length (putVarint v)) = cc in
       next-back 0 (omega arith) (putVarint v ++ rest) ∙ rw z
 
-  -- a field of bytes: its content starts behind the tag and the length
+  -- a field of bytes: its content starts after the tag and the length
   pub bytesField-back : (x rest : List ℕ) → length x < 2 ^ 64
       → nextField (putBytes n x ++ rest) ≡ bytesField n (length (putTag n 2) + length (putVarint (length x))) (length x)
-  unfolding content behind wireType
+  unfolding content fieldAfter wireType
   bytesField-back x rest h =
       let r = lengthPrefix-back x rest h in
       let z : content n LEN (putVarint (length x) ++ (x ++ rest)) ≡ bytesField n (length (putVarint (length x))) (length x) = cc in
@@ -158,7 +161,8 @@ module _ (n : ℕ) (some : 0 < n) (high : n < 2 ^ 29) where
       rw shape (next-back 2 (omega arith) (putVarint (length x) ++ (x ++ rest)) ∙ rw z)
 
   -- and is the content that was written
-  pub content-back : (x rest : List ℕ) → take (length x) (drop (length (putTag n 2) + length (putVarint (length x))) (putBytes n x ++ rest)) ≡ x
+  pub content-back : (x rest : List ℕ)
+      → take (length x) (drop (length (putTag n 2) + length (putVarint (length x))) (putBytes n x ++ rest)) ≡ x
   content-back x rest =
       let shape : putBytes n x ++ rest ≡ (putTag n 2 ++ putVarint (length x)) ++ (x ++ rest) = simp append-assoc in
       let size = length-append (putTag n 2) (putVarint (length x)) in
@@ -179,6 +183,12 @@ signed-back (pos n) h =
 signed-back (negsuc n) h =
     let low : (2 ^ 64 - suc n) % 2 ^ 32 ≡ 2 ^ 32 - suc n = omega arith in
     rw (low, le-ltb (2 ^ 32 - suc n) (2 ^ 31) (omega arith)) (ap negsuc (omega arith))
+
+-- its 32 bits say the same
+pub signed-bits : (z : ℤ) → mag z < 2 ^ 31 → lowI32 (lowU32 (signExtended z)) ≡ z
+signed-bits z h =
+    let low : signExtended z % 2 ^ 32 % 2 ^ 32 ≡ signExtended z % 2 ^ 32 = omega arith in
+    ap twosComplement low ∙ signed-back z h
 
 -- a negative int32, -1 - n, and what it is written as are 2^64 together
 pub signed-whole : (n : ℕ) → n < 2 ^ 31 → signExtended (negsuc n) + suc n ≡ 2 ^ 64
@@ -217,14 +227,12 @@ groups-least : (room : ℕ) (s : List ℕ) → Least room (groups room s)
 unfolding groups
 groups-least zero s = tt
 groups-least (suc room) [] = tt
-groups-least (suc room) (b ∷ s) = by (ltb b 128) refl (groups-least room s)
-  where
-    by : (t : Bool) → ltb b 128 ≡ t → Least room (groups room s)
-        → Least (suc room) (cond t (cond (eqb room 0 && ltb 1 b) bad (got b 1)) (joined (b % 128) (groups room s)))
-    by true e i =
-        let one : length (shortest (suc room) b) ≤ 1 = rw (shortest-last room b (ltb-true b 128 e)) (omega arith) in
-        either (Least (suc room)) (eqb room 0 && ltb 1 b) tt one
-    by false e i = joined-least room (b % 128) (mod-lt b (omega arith)) (groups room s) i
+groups-least (suc room) (b ∷ s) =
+    choose (Least (suc room)) (ltb b 128) (cond (eqb room 0 && ltb 1 b) bad (got b 1)) (joined (b % 128) (groups room s))
+    (λ e.
+    let one : length (shortest (suc room) b) ≤ 1 = rw (shortest-last room b (ltb-true b 128 e)) (omega arith) in
+    either (Least (suc room)) (eqb room 0 && ltb 1 b) tt one)
+    (λ e. joined-least room (b % 128) (mod-lt b (omega arith)) (groups room s) (groups-least room s))
 
 -- no reading of a number takes fewer bytes than are written for it
 pub varint-least : (s : List ℕ) (v used : ℕ) → varint s ≡ got v used → length (putVarint v) ≤ used

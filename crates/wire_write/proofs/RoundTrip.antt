@@ -25,13 +25,18 @@ use Rattle.wire_write.proofs.Outputs.{accepted}
 use Rattle.wire_write.proofs.ReadBack.{varint-back, good-numbers, tag-back, bytesField-back}
 
 module _ (out : List ℕ) (at end : ℕ) (x : List ℕ) (room : at + length x ≤ length out) (inside : at + length x ≤ end) where
-  -- the part that starts where `x` was stored is `x` and what stood behind it
+  -- the part that starts where `x` was stored is `x` and what came after it
   pub part-stored : part (stored out at x) at end ≡ x ++ part out (at + length x) end
   unfolding stored
   part-stored =
       let here : length (take at out) ≡ at = length-take-le at out (omega arith) in
       let size : end - at ≡ length x + (end - (at + length x)) = omega arith in
-      rw (le-leb (at + length x) (length out) room, append-assoc (take at out) x (drop (at + length x) out), drop-at (take at out) (x ++ drop (at + length x) out) at here, size)
+      rw (
+        le-leb (at + length x) (length out) room,
+        append-assoc (take at out) x (drop (at + length x) out),
+        drop-at (take at out) (x ++ drop (at + length x) out) at here,
+        size,
+      )
       (take-append-add x (drop (at + length x) out) (end - (at + length x)))
 
 module _ (out : List ℕ) (at end next : ℕ) (inside : next ≤ end) where

@@ -10,6 +10,7 @@ use borrow.Author.Tests.{le-ltb}
 use mir.Syntax.{w32, w64}
 use mir.Val.{Fits, SFits, toZ, ofZ}
 use mir.ValLaws.{toZ-ofZ}
+use Rattle.laws.proofs.Booleans.{clash}
 use Rattle.wire_write.specs.Writing.{signExtended}
 
 -- -1 - (-1 - n)
@@ -19,35 +20,29 @@ to-minus-one n = rw (le-ltb (suc n) 1 (omega arith)) (ap pos (omega arith))
 -- `sign_extend`, of a number that is not negative
 nonneg-cast : (v : ℤ) → SFits w32 v → leZ (pos 0) v ≡ true → T (nonNeg v) × Fits w64 (natAbs v)
 nonneg-cast (pos n) f e = (tt, record { fits = omega (arith, f .sfits) })
-nonneg-cast (negsuc n) f e = let z : _≡_ {A = ℕ} 0 1 = cc in let a : ⊥ = omega arith in absurd a
+nonneg-cast (negsuc n) f e = clash cc
 
 nonneg-value : (v : ℤ) → leZ (pos 0) v ≡ true → natAbs v ≡ signExtended v
 unfolding signExtended
 nonneg-value (pos n) e = refl
-nonneg-value (negsuc n) e = let z : _≡_ {A = ℕ} 0 1 = cc in let a : ⊥ = omega arith in absurd a
+nonneg-value (negsuc n) e = clash cc
 
 -- and of a negative one
-negative : (v : ℤ) → leZ (pos 0) v ≡ false → (P : ℤ → Type 0) → ((n : ℕ) → P (negsuc n)) → P v
-negative (pos n) e P p =
-    let t = leb·zero n in
-    let z : _≡_ {A = ℕ} 0 1 = cc in
-    let a : ⊥ = omega arith in
-    absurd a
-negative (negsuc n) e P p = p n
+not-negative : {A : Type 0} (n : ℕ) → leZ (pos 0) (pos n) ≡ false → A
+not-negative n e = let t = leb·zero n in clash cc
 
 neg-fits : (v : ℤ) → SFits w32 v → leZ (pos 0) v ≡ false → SFits w32 (negsuc 0 -ℤ v)
-neg-fits v f e =
-    negative v e (λ (x : ℤ). SFits w32 x → SFits w32 (negsuc 0 -ℤ x)) (λ n g. rw (to-minus-one n) (record { sfits = g .sfits })) f
+neg-fits (pos n) f e = not-negative n e
+neg-fits (negsuc n) f e = rw (to-minus-one n) (record { sfits = f .sfits })
 
 neg-small : (v : ℤ) → SFits w32 v → leZ (pos 0) v ≡ false → T (nonNeg (negsuc 0 -ℤ v)) × (natAbs (negsuc 0 -ℤ v) < 2 ^ 31)
-neg-small v f e =
-    negative v e (λ (x : ℤ). SFits w32 x → T (nonNeg (negsuc 0 -ℤ x)) × (natAbs (negsuc 0 -ℤ x) < 2 ^ 31))
-    (λ n g. rw (to-minus-one n) (tt, g .sfits)) f
+neg-small (pos n) f e = not-negative n e
+neg-small (negsuc n) f e = rw (to-minus-one n) (tt, f .sfits)
 
 neg-value : (v : ℤ) → leZ (pos 0) v ≡ false → 18446744073709551615 - natAbs (negsuc 0 -ℤ v) ≡ signExtended v
 unfolding signExtended
-neg-value v e =
-    negative v e (λ (x : ℤ). 18446744073709551615 - natAbs (negsuc 0 -ℤ x) ≡ signExtended x) (λ n. rw (to-minus-one n) (omega arith))
+neg-value (pos n) e = not-negative n e
+neg-value (negsuc n) e = rw (to-minus-one n) (omega arith)
 
 -- the same of the bits that the machine holds for an int32
 module _ (v : ℤ) (f : SFits w32 v) where
@@ -71,7 +66,8 @@ module _ (v : ℤ) (f : SFits w32 v) where
     neg-back : toZ w32 (ofZ w32 (negsuc 0 -ℤ toZ w32 (ofZ w32 v))) ≡ negsuc 0 -ℤ v
     neg-back = toZ-ofZ w32 (negsuc 0 -ℤ toZ w32 (ofZ w32 v)) neg-bits-fit ∙ rw back
 
-    pub neg-bits-small : T (nonNeg (toZ w32 (ofZ w32 (negsuc 0 -ℤ toZ w32 (ofZ w32 v))))) × (natAbs (toZ w32 (ofZ w32 (negsuc 0 -ℤ toZ w32 (ofZ w32 v)))) < 2 ^ 31)
+    pub neg-bits-small : T (nonNeg (toZ w32 (ofZ w32 (negsuc 0 -ℤ toZ w32 (ofZ w32 v))))) ×
+        (natAbs (toZ w32 (ofZ w32 (negsuc 0 -ℤ toZ w32 (ofZ w32 v)))) < 2 ^ 31)
     neg-bits-small = rw neg-back (neg-small v f e′)
 
     pub neg-bits-value : 18446744073709551615 - natAbs (toZ w32 (ofZ w32 (negsuc 0 -ℤ toZ w32 (ofZ w32 v)))) ≡ signExtended v

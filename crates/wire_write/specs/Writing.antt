@@ -5,7 +5,7 @@ use mathlib.Core.List.{List, [], _∷_, _++_}
 use lib.ListN.{length, take, drop}
 use lib.Dec.{ltb, leb}
 use lib.IntN.{ℤ, pos, negsuc}
-use Rattle.wire_read.specs.Errors.{badTag}
+use Rattle.refusals.specs.Numbers.{badTag, outputShort}
 use Rattle.wire_write.specs.declared.Written.{Written}
 use Rattle.wire_write.specs.declared.Written.the-variants as writes
 
@@ -43,11 +43,7 @@ goodTag n w = ltb (n * 8 + w) (2 ^ 32) && (ltb 0 n && ltb w 6)
 abbrev pub fits : List ℕ → ℕ → List ℕ → Bool
 fits out at x = leb (at + length x) (length out)
 
--- 27: "output shorter than the frame", here than what is to be written
-abbrev pub outputShort : ℕ
-outputShort = 27
-
--- the first ground of refusal, 0 for none: 11, then 27
+-- the first ground of refusal, 0 for none: 11, then 27, "output shorter than the frame", here than what is to be written
 abbrev pub firstGround : (good room : Bool) → ℕ
 firstGround good room = cond good (cond room 0 outputShort) badTag
 

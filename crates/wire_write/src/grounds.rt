@@ -1,7 +1,7 @@
 // What is looked at before a byte is stored, in document 01's order: 11, then 27.
-use crate::OUTPUT_SHORT;
 use crate::storing::has_room;
-use wire_read::BAD_TAG;
+use refusals::BAD_TAG;
+use refusals::OUTPUT_SHORT;
 ghost use mathlib.Core.Path.{_≡_};
 ghost use Prim.Native.Nat.{_+_};
 ghost use lib.Dec.{leb};

@@ -1,5 +1,5 @@
 // Protobuf fields written: shortest varints, tags, fields of bytes. Document 01, "Fields (Protobuf
-// encoding)" and "varints shortest". What was written reads back by `wire` (proofs/ReadBack.antt).
+// encoding)" and "varints shortest". What was written reads back by `wire_read` (proofs/ReadBack.antt).
 //
 // A writer is given an output and a place in it. It writes all of its bytes from there; or it refuses,
 // and the output is untouched. Every function takes all arguments and ends.
@@ -9,16 +9,15 @@ mod storing;
 use grounds::first_ground;
 use grounds::good_tag;
 use grounds::has_room_for_both;
+use refusals::OUTPUT_SHORT;
 use storing::has_room;
 use storing::put_varint;
 ghost use mathlib.Core.Path.{_≡_};
 ghost use Rattle.wire_write.specs.Writing.{putVarint, putTag, putBytes, signExtended, stored, writtenAt, tagStored, tagWritten};
 ghost use lib.ListN.{length};
 
-// 27: "output shorter than the frame", here than what is to be written
-pub const OUTPUT_SHORT: u32 = 27;
-
-// The next place of the output; or the refusal number: 11, the tag is bad, or 27.
+// The next place of the output; or the refusal number: 11, the tag is bad, or 27, the output is
+// shorter than what is to be written.
 pub enum Written {
     Next(usize),
     Refused(u32),
@@ -50,7 +49,8 @@ pub fn varint_len(v: u64) -> usize
 
 // Writes `v` as its shortest varint from the place `at` of the output.
 pub fn write_varint(v: u64, out: &mut [u8], at: usize) -> Written
-    ensures { λ r. ⌜ (r ≡ writtenAt (now (out .entry)) at (putVarint v)) × (now (out .exit) ≡ stored (now (out .entry)) at (putVarint v)) ⌝ }
+    ensures { λ r. ⌜ (r ≡ writtenAt (now (out .entry)) at (putVarint v))
+        × (now (out .exit) ≡ stored (now (out .entry)) at (putVarint v)) ⌝ }
 {
     if has_room(out, at, varint_len(v)) {
         Written::Next(put_varint(v, out, at))
@@ -76,7 +76,8 @@ pub fn write_tag(number: u32, wire_type: u32, out: &mut [u8], at: usize) -> Writ
 
 // Writes bytes as they are, with no tag and no length.
 pub fn write_raw(content: &[u8], out: &mut [u8], at: usize) -> Written
-    ensures { λ r. ⌜ (r ≡ writtenAt (now (out .entry)) at (now (content .entry))) × (now (out .exit) ≡ stored (now (out .entry)) at (now (content .entry))) ⌝ }
+    ensures { λ r. ⌜ (r ≡ writtenAt (now (out .entry)) at (now (content .entry)))
+        × (now (out .exit) ≡ stored (now (out .entry)) at (now (content .entry))) ⌝ }
 {
     if has_room(out, at, content.len()) {
         return Written::Next(at + bytes::copy(content, &mut out[at..]));

@@ -16,7 +16,7 @@ pub(crate) fn has_room(out: &[u8], at: usize, size: usize) -> bool
     }
 }
 
-// Stores the shortest varint of `v`, and returns the place behind it.
+// Stores the shortest varint of `v`, and returns the place after it.
 pub(crate) fn put_varint(v: u64, out: &mut [u8], at: usize) -> usize
     requires { ⌜ at + length (putVarint v) ≤ length (now out) ⌝ }
     ensures { λ r. ⌜ (r ≡ at + length (putVarint v)) × (now (out .exit) ≡ stored (now (out .entry)) at (putVarint v)) ⌝ }

@@ -9,12 +9,13 @@ use native.Mathlib.Numerals.{add-one}
 use Rattle.wire_write.specs.Writing.{putBytes}
 use Rattle.decoder.specs.Rows.{Row, rowsIn}
 use Rattle.decoder.proofs.RowLaws.{length-rowsIn, rowAt}
-use Rattle.deframer.proofs.Codes.{both}
+use Rattle.laws.proofs.Booleans.{both}
 use Rattle.writer.specs.Encoding.{putEntry, putRows}
-use Rattle.outgoing.specs.Items.{noItem, itemsOf, itemWithin, itemsWithin}
+use Rattle.schema.specs.Items.{noItem, itemsOf}
+use Rattle.writer_checks.specs.ItemGrounds.{itemWithin, itemsWithin}
 use Rattle.writer.specs.Items.{Puts, putItem, putItems, bytesSize, entrySize, rowsSize, itemSize, itemsSize, rowAt as rowIn}
-use Rattle.outgoing.specs.declared.Item.{Item}
-use Rattle.writer_checks.proofs.GroundLaws.{few-items}
+use Rattle.schema.specs.declared.Item.{Item}
+use Rattle.schema.proofs.ItemLaws.{few-items}
 use Rattle.writer.proofs.Outputs.{Left, first-fits, steps, none-left}
 
 -- ---- fields
@@ -30,7 +31,8 @@ item-within size slots (x ∷ xs) zero e = both (itemWithin size slots x) (items
 item-within size slots (x ∷ xs) (suc k) e = item-within size slots xs k (both (itemWithin size slots x) (itemsWithin size slots xs) e .1)
 
 module _ (rows : List Row) (slots : List ℕ) where
-  size-at : (xs : List Item) (k : ℕ) → itemsSize rows slots (drop k xs) ≡ itemSize rows slots (getD xs k noItem) + itemsSize rows slots (drop (suc k) xs)
+  size-at : (xs : List Item) (k : ℕ)
+      → itemsSize rows slots (drop k xs) ≡ itemSize rows slots (getD xs k noItem) + itemsSize rows slots (drop (suc k) xs)
   unfolding itemsSize itemSize
   size-at [] zero = refl
   size-at [] (suc k) = refl
@@ -50,7 +52,8 @@ module _ (rows : List Row) (slots : List ℕ) where
 
 module _ (source : List ℕ) (rows : List Row) (slots : List ℕ) where
   put-at : (xs : List Item) (k : ℕ)
-      → putItems source rows slots (drop k xs) ≡ putItem source rows slots (getD xs k noItem) ++ putItems source rows slots (drop (suc k) xs)
+      → putItems source rows slots (drop k xs)
+      ≡ putItem source rows slots (getD xs k noItem) ++ putItems source rows slots (drop (suc k) xs)
   unfolding putItems putItem
   put-at [] zero = refl
   put-at [] (suc k) = refl
@@ -70,7 +73,8 @@ module _ (source : List ℕ) (rows : List Row) (slots : List ℕ) where
     pub item-fits : (x : Item) → x ≡ getD (itemsOf schema) k noItem → at + length (putItem source rows slots x) ≤ length out
     item-fits x e = first-fits (putItem source rows slots x) _ (next-item x e)
 
-    pub put-more : (x : Item) → x ≡ getD (itemsOf schema) k noItem → {next : ℕ} {after : List ℕ} → Puts (putItem source rows slots x) out at next after
+    pub put-more : (x : Item) → x ≡ getD (itemsOf schema) k noItem → {next : ℕ} {after : List ℕ}
+        → Puts (putItem source rows slots x) out at next after
         → Left (putItems source rows slots (drop (k + 1) (itemsOf schema))) all out₀ at₀ after next
     put-more x e p = rw (add-one k) (steps (putItem source rows slots x) _ (next-item x e) p)
 

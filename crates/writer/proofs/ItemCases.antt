@@ -5,14 +5,14 @@ use mathlib.Core.Bool.{true}
 use mathlib.Core.List.{List, []}
 use lib.ListN.{length, getD}
 use borrow.Author.Tests.{leb-true}
-use Rattle.decoder.specs.Schema.{uint32, int32}
+use Rattle.schema.specs.Schema.{uint32, int32}
 use Rattle.decoder.specs.Rows.{Row}
 use Rattle.decoder.specs.Fields.{partOf}
 use Rattle.writer.specs.Encoding.{putNumber, putSome, putRows}
-use Rattle.outgoing.specs.Items.{itemWithin}
+use Rattle.writer_checks.specs.ItemGrounds.{itemWithin}
 use Rattle.writer.specs.Items.{putItem, itemSize, sizeIf, rowsSize}
-use Rattle.outgoing.specs.declared.Item.{Item}
-use Rattle.outgoing.specs.declared.Item.the-variants as item
+use Rattle.schema.specs.declared.Item.{Item}
+use Rattle.schema.specs.declared.Item.the-variants as item
 
 module _ (rows : List Row) (slots : List ℕ) {x : Item} where
   module _ (source : List ℕ) where

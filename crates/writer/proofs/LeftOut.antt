@@ -5,7 +5,7 @@ use mathlib.Core.List.{List, [], _++_}
 use lib.ListN.{length}
 use borrow.Author.Tests.{eq-eqb, ne-eqb}
 use Rattle.wire_write.specs.Writing.{putVarint, putTag, putBytes}
-use Rattle.decoder.specs.Schema.{Integer}
+use Rattle.schema.specs.Schema.{Integer}
 use Rattle.decoder.specs.Fields.{partOf}
 use Rattle.writer.specs.Encoding.{wide, putNumber, putSome}
 use Rattle.writer.proofs.Lengths.{part-length}

@@ -10,14 +10,15 @@ use borrow.Author.Tests.{leb-true}
 use Rattle.wire_write.specs.Writing.{putBytes}
 use Rattle.decoder.specs.Rows.{Row}
 use Rattle.decoder.specs.Fields.{partOf}
-use Rattle.deframer.proofs.Codes.{both}
+use Rattle.laws.proofs.Booleans.{both}
 use Rattle.writer.specs.Encoding.{putSome, putEntry, putRows}
 use Rattle.writer_checks.specs.Grounds.{rowsWithin}
-use Rattle.outgoing.specs.Items.{itemsOf, itemWithin, itemsWithin}
-use Rattle.writer.specs.Items.{RowIn, putItem, putItems, putPart, putInit, putMessage, bytesSize, entrySize, rowsSize, itemSize}
-use Rattle.writer.specs.Items.{itemsSize, sizeIf, initSizes, sizesOf, initWithin, messageWithin}
-use Rattle.outgoing.specs.declared.Item.{Item}
-use Rattle.outgoing.specs.declared.Item.the-variants as item
+use Rattle.schema.specs.Items.{itemsOf}
+use Rattle.writer_checks.specs.ItemGrounds.{itemWithin, itemsWithin}
+use Rattle.writer.specs.Items.{RowIn, putItem, putItems, putPart, putInit, putMessage, bytesSize, entrySize}
+use Rattle.writer.specs.Items.{rowsSize, itemSize, itemsSize, sizeIf, initSizes, sizesOf, initWithin, messageWithin}
+use Rattle.schema.specs.declared.Item.{Item}
+use Rattle.schema.specs.declared.Item.the-variants as item
 
 pub part-length : (source : List ℕ) (at size : ℕ) → at + size ≤ length source → length (partOf source at size) ≡ size
 part-length source at size h = omega (arith, length-take size (drop at source), length-drop at source)

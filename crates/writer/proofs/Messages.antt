@@ -4,16 +4,17 @@ use mathlib.Core.Path.{_≡_, refl, sym, ap, _∙_}
 use mathlib.Core.Bool.{true}
 use mathlib.Core.List.{List}
 use lib.ListN.{length}
-use Rattle.decoder.specs.Schema.{width, schemaAt, partSchema, slotAt}
+use Rattle.schema.specs.Schema.{width, schemaAt, partSchema, slotAt}
 use Rattle.decoder.specs.Rows.{Row, rowsIn}
-use Rattle.message.specs.Records.{schemaOf}
-use Rattle.message.specs.declared.Kind.{Kind}
-use Rattle.message.specs.declared.Kind.the-variants as kinds
+use Rattle.schema.specs.Kinds.{schemaOf, schemaNumber}
+use Rattle.schema.specs.declared.Kind.{Kind}
+use Rattle.schema.specs.declared.Kind.the-variants as kinds
 use Rattle.writer.specs.Encoding.{putFields}
 use Rattle.writer_checks.specs.Grounds.{spansWithin, rowsWithin}
-use Rattle.outgoing.specs.Items.{items, itemWithin, itemsWithin, schemaNumber}
+use Rattle.schema.specs.Items.{items}
+use Rattle.writer_checks.specs.ItemGrounds.{itemWithin, itemsWithin}
 use Rattle.writer.specs.Items.{putItem, putItems, putInit, putMessage, initWithin, messageWithin, sizesOf, messageIn}
-use Rattle.outgoing.specs.declared.Content.{Content}
+use Rattle.records.specs.declared.Content.{Content}
 use Rattle.writer.specs.declared.sizes.Sizes.{Sizes}
 use Rattle.writer.proofs.Lengths.{message-length}
 

@@ -1,11 +1,12 @@
--- What is stored in an output, one thing behind another: what is left, stored from the place reached, gives what all of it gives.
+-- What is stored in an output, one thing after another: what is left, stored from the place reached, gives what all of it gives.
 use Prim.Native.Nat.{ℕ, _+_, _≤_}
 use mathlib.Core.Path.{_≡_, refl, sym, ap, _∙_}
-use mathlib.Core.List.{List, [], _∷_, _++_}
-use lib.ListN.{length, set, length-append}
+use mathlib.Core.List.{List, [], _++_}
+use lib.ListN.{length, length-append}
 use native.Mathlib.Omega.{arith}
-use native.Mathlib.Numerals.{add-one}
 use borrow.Author.Tests.{le-leb}
+use Rattle.fixed_header.specs.Put.{fixedHeader, headerPut}
+use Rattle.fixed_header.specs.declared.FixedHeader.{FixedHeader}
 use Rattle.wire_write.specs.Writing.{stored, writtenAt}
 use Rattle.wire_write.specs.declared.Written.{Written}
 use Rattle.wire_write.proofs.Outputs.{stored-sets, stored-then, length-stored}
@@ -48,16 +49,17 @@ pub nothing : (out : List ℕ) (at : ℕ) → at ≤ length out → Puts [] out 
 nothing out at h = none-left (starts [] out at (omega arith))
 
 -- what `wire_write` writes where there is room
-pub wrote : (x out : List ℕ) (at : ℕ) → at + length x ≤ length out → (w : Written) → w ≡ writtenAt out at x → (r : ℕ) → r ≡ placeOf w at
+pub puts-written : (x out : List ℕ) (at : ℕ) → at + length x ≤ length out → (w : Written) → w ≡ writtenAt out at x → (r : ℕ)
+    → r ≡ placeOf w at
     → (after : List ℕ) → after ≡ stored out at x → Puts x out at r after
 unfolding writtenAt
-wrote x out at h w e r f after g =
+puts-written x out at h w e r f after g =
     record { place = f ∙ ap (λ (v : Written). placeOf v at) e ∙ rw (le-leb (at + length x) (length out) h); bytes = g }
 
--- two bytes, and four at the start
-pub two-bytes : (a b : ℕ) (out : List ℕ) (at : ℕ) → at + 2 ≤ length out → Puts (a ∷ b ∷ []) out at (at + 2) (set (set out at a) (at + 1) b)
-two-bytes a b out at h = record { place = refl; bytes = rw (add-one at) (sym (stored-sets out at (a ∷ b ∷ []) h)) }
-
-pub four-bytes : (a b c d : ℕ) (out : List ℕ) → 4 ≤ length out
-    → Puts (a ∷ b ∷ c ∷ d ∷ []) out 0 4 (set (set (set (set out 0 a) 1 b) 2 c) 3 d)
-four-bytes a b c d out h = record { place = refl; bytes = sym (stored-sets out 0 (a ∷ b ∷ c ∷ d ∷ []) h) }
+-- what `put_header` writes where there is room
+pub header-put : (h : FixedHeader) (out : List ℕ) → 16 ≤ length out → {r : ℕ} {after : List ℕ}
+    → (r ≡ headerPut h out .count) × (after ≡ headerPut h out .output) → Puts (fixedHeader h) out 0 r after
+unfolding headerPut fixedHeader stored
+header-put h out room e =
+    let fits = le-leb 16 (length out) room in
+    record { place = rw fits at (e .0); bytes = rw fits (rw fits at (e .1)) }

@@ -6,30 +6,27 @@ use lib.ListN.{length, drop, length-append}
 use lib.Dec.{leb, eqb}
 use native.Mathlib.Omega.{arith}
 use borrow.Author.Tests.{le-leb, leb-true, ne-eqb}
-use Rattle.deframer.specs.Header.{maxFrame, unless}
-use Rattle.deframer.proofs.Codes.{kept}
+use Rattle.laws.specs.Chains.{unless}
+use Rattle.laws.proofs.Booleans.{kept}
+use Rattle.fixed_header.specs.Header.{maxFrame}
+use Rattle.fixed_header.specs.Put.{fixedHeader}
+use Rattle.fixed_header.proofs.RoundTrip.{sixteen-bytes}
 use Rattle.wire_write.specs.Writing.{stored}
-use Rattle.message.specs.declared.Kind.{Kind}
-use Rattle.message.specs.declared.Record.{Record}
-use Rattle.outgoing.specs.Content.{kindOf, recordId, rowCount, slotsOf}
-use Rattle.writer.specs.Writing.{maxHeader, headerSize, fixedHeader, messageOf, frameOf, sizeError, writeError, written}
+use Rattle.records.specs.declared.Record.{Record}
+use Rattle.records.specs.Content.{kindOf, recordId, rowCount, slotsOf}
+use Rattle.writer.specs.Writing.{headerFor, maxHeader, messageOf, frameOf, sizeError, writeError, written}
 use Rattle.writer_checks.specs.Grounds.{contentError}
 use Rattle.writer.specs.Items.{Puts, messageIn, frameWith, writtenWith}
 use Rattle.writer.specs.declared.Encoded.the-variants.{Frame, Refused}
-use Rattle.outgoing.specs.declared.Content.{Content}
-
-pub header-length : (kind : Kind) (total size id : ℕ) → length (fixedHeader kind total size id) ≡ 16
-unfolding fixedHeader
-header-length kind total size id = refl
+use Rattle.records.specs.declared.Content.{Content}
 
 module _ (r : Record) (source numbers body : List ℕ) where
   pub frame-length : length (frameOf r source numbers body) ≡ 16 + length (messageOf r source numbers) + length body
   unfolding frameOf
   frame-length =
       let m = messageOf r source numbers in
-      let h = fixedHeader (kindOf r) (16 + length m + length body) (headerSize (kindOf r) m) (recordId r) in
-      length-append (h ++ m) body
-      ∙ rw (length-append h m, header-length (kindOf r) (16 + length m + length body) (headerSize (kindOf r) m) (recordId r))
+      let h = headerFor (kindOf r) (recordId r) m body in
+      length-append (fixedHeader h ++ m) body ∙ rw (length-append (fixedHeader h) m, sixteen-bytes h)
 
   pub error-is : (room : ℕ)
       → writeError r source numbers body room
@@ -58,9 +55,8 @@ module _ (c : Content) (header body output : List ℕ) (e : ℕ)
 
   with-length : length (frameWith c header body) ≡ 16 + length header + length body
   with-length =
-      let h = fixedHeader (c .kind) (16 + length header + length body) (headerSize (c .kind) header) (c .id) in
-      length-append (h ++ header) body
-      ∙ rw (length-append h header, header-length (c .kind) (16 + length header + length body) (headerSize (c .kind) header) (c .id))
+      let h = headerFor (c .kind) (c .id) header body in
+      length-append (fixedHeader h ++ header) body ∙ rw (length-append (fixedHeader h) header, sixteen-bytes h)
 
   pub framed : e ≡ 0 → {r : ℕ} {after : List ℕ} → Puts (frameWith c header body) output 0 r after
       → (Frame r ≡ writtenWith c header body output .answer) × (after ≡ writtenWith c header body output .output)

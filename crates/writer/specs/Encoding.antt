@@ -7,7 +7,7 @@ use lib.ListN.{length, getD}
 use lib.Dec.{eqb}
 use Rattle.wire_read.specs.Varint.{lowI32}
 use Rattle.wire_write.specs.Writing.{putVarint, signExtended, putTag, putBytes}
-use Rattle.decoder.specs.Schema.{Integer, uint32, int32, Schema, done, number, bytes, map, message, width}
+use Rattle.schema.specs.Schema.{Integer, uint32, int32, Schema, done, number, bytes, map, message, width}
 use Rattle.decoder.specs.Rows.{Row}
 use Rattle.decoder.specs.Fields.{partOf}
 

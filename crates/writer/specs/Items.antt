@@ -9,20 +9,22 @@ use lib.Dec.{eqb}
 use Rattle.wire_write.specs.Writing.{putVarint, putTag, putBytes, stored}
 use Rattle.wire_write.specs.declared.Written.{Written}
 use Rattle.wire_write.specs.declared.Written.the-variants as writes
-use Rattle.decoder.specs.Schema.{Integer, uint32, int32}
+use Rattle.schema.specs.Schema.{Integer, uint32, int32}
 use Rattle.decoder.specs.Rows.{Row, rowsIn}
 use Rattle.decoder.specs.Fields.{partOf}
-use Rattle.deframer.specs.Header.{maxFrame}
-use Rattle.message.specs.Records.{schemaOf}
+use Rattle.fixed_header.specs.Header.{maxFrame}
+use Rattle.fixed_header.specs.Put.{fixedHeader}
+use Rattle.schema.specs.Kinds.{schemaOf}
 use Rattle.writer.specs.Encoding.{putNumber, putSome, putRows, putFields}
 use Rattle.writer_checks.specs.Grounds.{rowsWithin}
-use Rattle.outgoing.specs.Items.{itemsOf, itemsWithin}
-use Rattle.writer.specs.Writing.{headerSize, fixedHeader, sizeError, Writing, refusedWith, wrote}
-use Rattle.outgoing.specs.declared.Content.{Content}
+use Rattle.schema.specs.Items.{itemsOf}
+use Rattle.writer_checks.specs.ItemGrounds.{itemsWithin}
+use Rattle.writer.specs.Writing.{headerFor, sizeError, Writing, refusedWith, wrote}
+use Rattle.records.specs.declared.Content.{Content}
 use Rattle.writer.specs.declared.entry.MapEntry.{MapEntry}
 use Rattle.writer.specs.declared.sizes.Sizes.{Sizes}
-use Rattle.outgoing.specs.declared.Item.{Item}
-use Rattle.outgoing.specs.declared.Item.the-variants as item
+use Rattle.schema.specs.declared.Item.{Item}
+use Rattle.schema.specs.declared.Item.the-variants as item
 
 abbrev pub integerOf : (signed : Bool) → Integer
 integerOf true = int32
@@ -51,7 +53,7 @@ pub record Puts (x out : List ℕ) (at next : ℕ) (after : List ℕ) : Type 0 w
   pub place : next ≡ at + length x
   pub bytes : after ≡ stored out at x
 
--- the place behind what was written, or the same place where there was no room
+-- the place after what was written, or the same place where there was no room
 abbrev pub placeOf : Written → (at : ℕ) → ℕ
 placeOf (writes.Next next) at = next
 placeOf (writes.Refused error) at = at
@@ -166,8 +168,7 @@ abbrev pub messageIn : Content → (source numbers : List ℕ) → List ℕ
 messageIn c source numbers = putFields source (rowsIn (c .rows) numbers) (schemaOf (c .kind)) 0 (c .values)
 
 abbrev pub frameWith : Content → (header body : List ℕ) → List ℕ
-frameWith c header body =
-    fixedHeader (c .kind) (16 + length header + length body) (headerSize (c .kind) header) (c .id) ++ header ++ body
+frameWith c header body = fixedHeader (headerFor (c .kind) (c .id) header body) ++ header ++ body
 
 -- it has no ground that needs no size: 19, 20, 27, or the frame
 abbrev pub writtenWith : Content → (header body output : List ℕ) → Writing

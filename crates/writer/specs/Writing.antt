@@ -1,55 +1,53 @@
 -- Writing a frame: the refusal or the bytes, and the output afterwards
-use Prim.Native.Nat.{ℕ, _+_, _/_, _%_}
+use Prim.Native.Nat.{ℕ, _+_}
 use mathlib.Core.Bool.{cond}
-use mathlib.Core.List.{List, [], _∷_, _++_}
+use mathlib.Core.List.{List, _++_}
 use lib.ListN.{length, drop}
 use lib.Dec.{leb, eqb}
-use Rattle.deframer.specs.Header.{maxFrame, unless}
+use Rattle.laws.specs.Chains.{unless}
+use Rattle.fixed_header.specs.Header.{maxFrame}
+use Rattle.fixed_header.specs.Put.{fixedHeader}
+use Rattle.fixed_header.specs.declared.FixedHeader.{FixedHeader}
+use Rattle.fixed_header.specs.declared.FrameType.{FrameType}
+use Rattle.fixed_header.specs.declared.FrameType.the-variants.{Unary, Init, Data, Feedback, Close}
 use Rattle.decoder.specs.Rows.{rowsIn, Row}
-use Rattle.message.specs.Records.{schemaOf}
-use Rattle.message.specs.declared.Kind.{Kind}
-use Rattle.message.specs.declared.Kind.the-variants as kinds
-use Rattle.message.specs.declared.Record.{Record}
-use Rattle.outgoing.specs.Content.{kindOf, recordId, rowCount, slotsOf}
+use Rattle.schema.specs.Kinds.{schemaOf}
+use Rattle.schema.specs.declared.Kind.{Kind}
+use Rattle.schema.specs.declared.Kind.the-variants as kinds
+use Rattle.records.specs.declared.Record.{Record}
+use Rattle.records.specs.Content.{kindOf, recordId, rowCount, slotsOf}
 use Rattle.writer.specs.Encoding.{putFields}
 use Rattle.writer_checks.specs.Grounds.{contentError}
 use Rattle.writer.specs.declared.Encoded.{Encoded}
 use Rattle.writer.specs.declared.Encoded.the-variants.{Frame, Refused}
 
 -- ---- "The 16 bytes"
--- "Numbers are big-endian"
-abbrev pub put16 : ℕ → List ℕ
-put16 n = (n / 256 % 256) ∷ (n % 256) ∷ []
+-- "data type | 0 unary, 1 stream"; "stream type | 1 Init, 2 Data, 3 Feedback, 4 Close"
+abbrev pub frameTypeOf : Kind → FrameType
+frameTypeOf kinds.Request = Unary
+frameTypeOf kinds.Response = Unary
+frameTypeOf kinds.Init = Init
+frameTypeOf kinds.Data = Data
+frameTypeOf kinds.Feedback = Feedback
+frameTypeOf kinds.Close = Close
 
-abbrev pub put32 : ℕ → List ℕ
-put32 n = put16 (n / 65536) ++ put16 (n % 65536)
+-- "header size | unary: at most total less 16; stream: 0": that of a message of `size` bytes
+abbrev pub headerSize : FrameType → (size : ℕ) → ℕ
+headerSize Unary size = size
+headerSize Init size = 0
+headerSize Data size = 0
+headerSize Feedback size = 0
+headerSize Close size = 0
 
--- "0 unary, 1 stream"
-unfoldable pub dataType : Kind → ℕ
-dataType kinds.Request = 0
-dataType kinds.Response = 0
-dataType kinds.Init = 1
-dataType kinds.Data = 1
-dataType kinds.Feedback = 1
-dataType kinds.Close = 1
-
--- "1 Init, 2 Data, 3 Feedback, 4 Close; ignored in unary, written 0"
-unfoldable pub streamType : Kind → ℕ
-streamType kinds.Request = 0
-streamType kinds.Response = 0
-streamType kinds.Init = 1
-streamType kinds.Data = 2
-streamType kinds.Feedback = 3
-streamType kinds.Close = 4
-
--- "header size | unary: at most total less 16; stream: 0"
-abbrev pub headerSize : Kind → (message : List ℕ) → ℕ
-headerSize kind message = cond (eqb (dataType kind) 0) (length message) 0
-
--- "magic 09 30"; "reserved | both 0"
-unfoldable pub fixedHeader : Kind → (total size id : ℕ) → List ℕ
-fixedHeader kind total size id =
-    0x09 ∷ 0x30 ∷ dataType kind ∷ streamType kind ∷ put32 total ++ put16 size ++ put32 id ++ 0 ∷ 0 ∷ []
+-- the fixed header of a frame with this message and this body
+abbrev pub headerFor : Kind → (id : ℕ) → (message body : List ℕ) → FixedHeader
+headerFor kind id message body =
+    record {
+      «frame_type» = frameTypeOf kind;
+      total = 16 + length message + length body;
+      «header_size» = headerSize (frameTypeOf kind) (length message);
+      id = id;
+    }
 
 -- ---- the frame
 -- the rows of a record, four numbers each
@@ -64,9 +62,7 @@ messageOf r source numbers = putFields source (rowsOf r numbers) (schemaOf (kind
 -- Data frame's message is empty, and a body with the other stream kinds is refused.
 unfoldable pub frameOf : Record → (source numbers body : List ℕ) → List ℕ
 frameOf r source numbers body =
-    fixedHeader (kindOf r) (16 + length (messageOf r source numbers) + length body) (headerSize (kindOf r) (messageOf r source numbers))
-    (recordId r)
-    ++ messageOf r source numbers ++ body
+    fixedHeader (headerFor (kindOf r) (recordId r) (messageOf r source numbers) body) ++ messageOf r source numbers ++ body
 
 -- ---- the refusals
 -- "header message over 65,535"

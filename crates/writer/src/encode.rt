@@ -1,25 +1,30 @@
 // A frame of a record: the refusals in their order, then the 16 bytes, the message and the body.
 use crate::Encoded;
-use crate::header::data_type;
-use crate::header::put_header;
 use crate::put::place_behind;
 use crate::put::put_message;
 use crate::sizes::Sizes;
 use crate::sizes::message_sizes;
-use message::Kind;
-use outgoing::Content;
-use outgoing::schema_number;
+use fixed_header::FixedHeader;
+use fixed_header::FrameType;
+use fixed_header::HEADER;
+use fixed_header::MAX_FRAME;
+use fixed_header::put_header;
+use records::Content;
+use refusals::FRAME_OVER;
+use refusals::HEADER_OVER;
+use refusals::OUTPUT_SHORT;
+use schema::Kind;
+use schema::schema_number;
 ghost use mathlib.Core.Path.{_≡_};
-ghost use mathlib.Core.Bool.{true, cond};
+ghost use mathlib.Core.Bool.{true};
 ghost use Prim.Native.Nat.{_+_, _≤_};
-ghost use lib.Dec.{eqb};
 ghost use lib.ListN.{length};
-ghost use Rattle.deframer.specs.Header.{maxFrame};
+ghost use Rattle.fixed_header.specs.Header.{maxFrame};
 ghost use Rattle.decoder.specs.Rows.{rowsIn};
-ghost use Rattle.writer.specs.Writing.{dataType, maxHeader, sizeError};
-ghost use Rattle.outgoing.specs.Items.{schemaNumber};
-ghost use Rattle.writer.specs.Items.{sizesOf, messageWithin, mostMessage, SizeOf, Puts, Lent, RowsIn};
-ghost use Rattle.writer.specs.Items.{messageIn, frameWith, writtenWith};
+ghost use Rattle.writer.specs.Writing.{frameTypeOf, headerSize, maxHeader, sizeError};
+ghost use Rattle.schema.specs.Kinds.{schemaNumber};
+ghost use Rattle.writer.specs.Items.{sizesOf, messageWithin, mostMessage, SizeOf, Puts};
+ghost use Rattle.writer.specs.Items.{Lent, RowsIn, messageIn, frameWith, writtenWith};
 
 // "header message over 65,535"
 const MAX_HEADER: usize = 65535;
@@ -29,10 +34,10 @@ fn frame_size(size: usize, body: usize) -> usize
     requires { ⌜ size ≤ mostMessage ⌝ }
     ensures { λ r. ⌜ SizeOf (16 + size + body) r ⌝ }
 {
-    if body > deframer::MAX_FRAME {
-        return deframer::MAX_FRAME + 1;
+    if body > MAX_FRAME {
+        return MAX_FRAME + 1;
     }
-    deframer::HEADER + size + body
+    HEADER + size + body
 }
 
 // 19: the frame; 20: the header message; 27: the output. 0 for none.
@@ -41,24 +46,42 @@ fn size_error(size: usize, body: usize, room: usize) -> u32
     ensures { λ r. ⌜ r ≡ sizeError size (16 + size + body) room ⌝ }
 {
     let total = frame_size(size, body);
-    if total > deframer::MAX_FRAME {
-        return 19;
+    if total > MAX_FRAME {
+        return FRAME_OVER;
     }
     if size > MAX_HEADER {
-        return 20;
+        return HEADER_OVER;
     }
     if room < total {
-        return 27;
+        return OUTPUT_SHORT;
     }
     0
 }
 
-// Bytes 9 and 10: the size of the message in a unary frame, and 0 in a stream frame.
-fn header_size(kind: Kind, size: usize) -> u32
-    requires { ⌜ size ≤ maxHeader ⌝ }
-    ensures { λ r. ⌜ r ≡ cond (eqb (dataType kind) 0) size 0 ⌝ }
+fn frame_type(kind: Kind) -> FrameType
+    ensures { λ r. ⌜ r ≡ frameTypeOf kind ⌝ }
 {
-    if data_type(kind) == 0 { size as u32 } else { 0 }
+    match kind {
+        Kind::Request => FrameType::Unary,
+        Kind::Response => FrameType::Unary,
+        Kind::Init => FrameType::Init,
+        Kind::Data => FrameType::Data,
+        Kind::Feedback => FrameType::Feedback,
+        Kind::Close => FrameType::Close,
+    }
+}
+
+// Bytes 9 and 10: the size of the message in a unary frame, and 0 in a stream frame.
+fn header_size(frame_type: FrameType, size: usize) -> usize
+    ensures { λ r. ⌜ r ≡ headerSize «frame_type» size ⌝ }
+{
+    match frame_type {
+        FrameType::Unary => size,
+        FrameType::Init => 0,
+        FrameType::Data => 0,
+        FrameType::Feedback => 0,
+        FrameType::Close => 0,
+    }
 }
 
 // The whole frame, for which there is room; returns its size.
@@ -78,14 +101,14 @@ fn put_frame(
         (now (out .entry)) 0 r (now (out .exit)) ⌝ }
 {
     let kind = c.kind;
-    let total = deframer::HEADER + sizes.message + body.len();
-    let start = put_header(
-        kind,
-        total as u32,
-        header_size(kind, sizes.message),
-        c.id,
-        out,
-    );
+    let types = frame_type(kind);
+    let header = FixedHeader {
+        frame_type: types,
+        total: HEADER + sizes.message + body.len(),
+        header_size: header_size(types, sizes.message),
+        id: c.id,
+    };
+    let start = put_header(header, out);
     let end = put_message(schema_number(kind), c, sizes, source, rows, out, start);
     place_behind(wire_write::write_raw(body, out, end), end)
 }

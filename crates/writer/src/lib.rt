@@ -1,13 +1,12 @@
 // The writer of frames: what a record, the bytes that its starts refer to, its rows and a body are as one of six kinds.
 mod encode;
 mod entry;
-mod header;
 mod put;
 mod sizes;
 
 use encode::write_content;
-use message::Record;
-use outgoing::content_of;
+use records::Record;
+use records::content_of;
 use writer_checks::content_error;
 ghost use mathlib.Core.Path.{_≡_};
 ghost use Rattle.writer.specs.Writing.{written};

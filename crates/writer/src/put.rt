@@ -5,14 +5,14 @@ use crate::sizes::Sizes;
 use crate::sizes::entry_size;
 use crate::sizes::value_at;
 use crate::sizes::widened;
-use decoder::INIT;
-use decoder::REQUEST_META;
-use decoder::RESPONSE_META;
+use records::Content;
+use schema::INIT;
+use schema::Item;
+use schema::MAX_FIELDS;
+use schema::REQUEST_META;
+use schema::RESPONSE_META;
+use schema::item_at;
 use wire_write::Written;
-use outgoing::Content;
-use outgoing::Item;
-use outgoing::MAX_FIELDS;
-use outgoing::item_at;
 ghost use mathlib.Core.Path.{_≡_};
 ghost use mathlib.Core.Bool.{true};
 ghost use mathlib.Core.List.{_++_};
@@ -22,8 +22,10 @@ ghost use Rattle.wire_write.specs.Writing.{putTag, putVarint, putBytes};
 ghost use Rattle.decoder.specs.Fields.{partOf};
 ghost use Rattle.decoder.specs.Rows.{rowsIn};
 ghost use Rattle.writer.specs.Encoding.{putNumber, putSome, putEntry, putRows};
-ghost use Rattle.outgoing.specs.Items.{itemsOf, Placed, itemWithin, itemsWithin};
-ghost use Rattle.writer.specs.Items.{integerOf, rowOf, RowIn, Puts, placeOf, putItem, putItems, putPart, putInit, putMessage, itemsSize, initSizes, sizesOf, initWithin, messageWithin, RowsIn};
+ghost use Rattle.schema.specs.Items.{itemsOf, Placed};
+ghost use Rattle.writer_checks.specs.ItemGrounds.{itemWithin, itemsWithin};
+ghost use Rattle.writer.specs.Items.{integerOf, rowOf, RowIn, Puts, placeOf, putItem, putItems, putPart};
+ghost use Rattle.writer.specs.Items.{putInit, putMessage, itemsSize, initSizes, sizesOf, initWithin, messageWithin, RowsIn};
 
 // There was room.
 pub(crate) fn place_behind(w: Written, at: usize) -> usize
@@ -57,7 +59,8 @@ fn put_number(number: u32, value: u32, signed: bool, out: &mut [u8], at: usize) 
 
 // A field of bytes, `size` bytes of the source from `start`.
 fn put_span(number: u32, start: u32, size: u32, source: &[u8], out: &mut [u8], at: usize) -> usize
-    requires { ⌜ (start + size ≤ length (now source)) × (at + length (putBytes number (partOf (now source) start size)) ≤ length (now out)) ⌝ }
+    requires { ⌜ (start + size ≤ length (now source))
+        × (at + length (putBytes number (partOf (now source) start size)) ≤ length (now out)) ⌝ }
     ensures { λ r. ⌜ Puts (putBytes number (partOf (now (source .entry)) start size)) (now (out .entry)) at r (now (out .exit)) ⌝ }
 {
     let first = start as usize;
@@ -71,7 +74,8 @@ fn put_span(number: u32, start: u32, size: u32, source: &[u8], out: &mut [u8], a
 
 // The same, left out where it is empty.
 fn put_some(number: u32, start: u32, size: u32, source: &[u8], out: &mut [u8], at: usize) -> usize
-    requires { ⌜ (start + size ≤ length (now source)) × (at + length (putSome number (partOf (now source) start size)) ≤ length (now out)) ⌝ }
+    requires { ⌜ (start + size ≤ length (now source))
+        × (at + length (putSome number (partOf (now source) start size)) ≤ length (now out)) ⌝ }
     ensures { λ r. ⌜ Puts (putSome number (partOf (now (source .entry)) start size)) (now (out .entry)) at r (now (out .exit)) ⌝ }
 {
     if size == 0 {
@@ -82,7 +86,8 @@ fn put_some(number: u32, start: u32, size: u32, source: &[u8], out: &mut [u8], a
 
 // A map entry: key and value always both.
 fn put_entry(number: u32, e: MapEntry, source: &[u8], out: &mut [u8], at: usize) -> usize
-    requires { ⌜ RowIn (length (now source)) (rowOf e) × (at + length (putBytes number (putEntry (now source) (rowOf e))) ≤ length (now out)) ⌝ }
+    requires { ⌜ RowIn (length (now source)) (rowOf e)
+        × (at + length (putBytes number (putEntry (now source) (rowOf e))) ≤ length (now out)) ⌝ }
     ensures { λ r. ⌜ Puts (putBytes number (putEntry (now (source .entry)) (rowOf e))) (now (out .entry)) at r (now (out .exit)) ⌝ }
 {
     let inside = put_tagged(number, 2, entry_size(e) as u64, out, at);
@@ -98,8 +103,10 @@ fn put_rows(
     out: &mut [u8],
     at: usize,
 ) -> usize
-    requires { ⌜ RowsIn count (now source) (now rows) × (at + length (putRows (now source) number (rowsIn count (now rows))) ≤ length (now out)) ⌝ }
-    ensures { λ r. ⌜ Puts (putRows (now (source .entry)) number (rowsIn count (now (rows .entry)))) (now (out .entry)) at r (now (out .exit)) ⌝ }
+    requires { ⌜ RowsIn count (now source) (now rows)
+        × (at + length (putRows (now source) number (rowsIn count (now rows))) ≤ length (now out)) ⌝ }
+    ensures { λ r. ⌜ Puts (putRows (now (source .entry)) number (rowsIn count (now (rows .entry)))) (now (out .entry)) at r
+        (now (out .exit)) ⌝ }
 {
     let mut next = at;
     let mut i: usize = 0;
@@ -111,8 +118,10 @@ fn put_rows(
 }
 
 fn put_item(item: Item, c: Content, source: &[u8], rows: &[u32], out: &mut [u8], at: usize) -> usize
-    requires { ⌜ Placed item × RowsIn (c .rows) (now source) (now rows) × (itemWithin (length (now source)) (c .values) item ≡ true) × (at + length (putItem (now source) (rowsIn (c .rows) (now rows)) (c .values) item) ≤ length (now out)) ⌝ }
-    ensures { λ r. ⌜ Puts (putItem (now (source .entry)) (rowsIn (c .rows) (now (rows .entry))) (c .values) item) (now (out .entry)) at r (now (out .exit)) ⌝ }
+    requires { ⌜ Placed item × RowsIn (c .rows) (now source) (now rows) × (itemWithin (length (now source)) (c .values) item ≡ true)
+        × (at + length (putItem (now source) (rowsIn (c .rows) (now rows)) (c .values) item) ≤ length (now out)) ⌝ }
+    ensures { λ r. ⌜ Puts (putItem (now (source .entry)) (rowsIn (c .rows) (now (rows .entry))) (c .values) item) (now (out .entry)) at r
+        (now (out .exit)) ⌝ }
 {
     match item {
         Item::Unsigned(number, slot) => put_number(number, value_at(c, slot), false, out, at),
@@ -139,8 +148,10 @@ fn put_fields(
     out: &mut [u8],
     at: usize,
 ) -> usize
-    requires { ⌜ RowsIn (c .rows) (now source) (now rows) × (itemsWithin (length (now source)) (c .values) (itemsOf schema) ≡ true) × (at + length (putItems (now source) (rowsIn (c .rows) (now rows)) (c .values) (itemsOf schema)) ≤ length (now out)) ⌝ }
-    ensures { λ r. ⌜ Puts (putItems (now (source .entry)) (rowsIn (c .rows) (now (rows .entry))) (c .values) (itemsOf schema)) (now (out .entry)) at r (now (out .exit)) ⌝ }
+    requires { ⌜ RowsIn (c .rows) (now source) (now rows) × (itemsWithin (length (now source)) (c .values) (itemsOf schema) ≡ true)
+        × (at + length (putItems (now source) (rowsIn (c .rows) (now rows)) (c .values) (itemsOf schema)) ≤ length (now out)) ⌝ }
+    ensures { λ r. ⌜ Puts (putItems (now (source .entry)) (rowsIn (c .rows) (now (rows .entry))) (c .values) (itemsOf schema))
+        (now (out .entry)) at r (now (out .exit)) ⌝ }
 {
     let mut next = at;
     let mut k: usize = 0;
@@ -163,8 +174,13 @@ fn put_part(
     out: &mut [u8],
     at: usize,
 ) -> usize
-    requires { ⌜ RowsIn (c .rows) (now source) (now rows) × (itemsWithin (length (now source)) (c .values) (itemsOf schema) ≡ true) × (size ≡ itemsSize (rowsIn (c .rows) (now rows)) (c .values) (itemsOf schema)) × (at + length (putPart number mark (putItems (now source) (rowsIn (c .rows) (now rows)) (c .values) (itemsOf schema))) ≤ length (now out)) ⌝ }
-    ensures { λ r. ⌜ Puts (putPart number mark (putItems (now (source .entry)) (rowsIn (c .rows) (now (rows .entry))) (c .values) (itemsOf schema))) (now (out .entry)) at r (now (out .exit)) ⌝ }
+    requires { ⌜ RowsIn (c .rows) (now source) (now rows) × (itemsWithin (length (now source)) (c .values) (itemsOf schema) ≡ true)
+        × (size ≡ itemsSize (rowsIn (c .rows) (now rows)) (c .values) (itemsOf schema))
+        × (at + length (putPart number mark
+        (putItems (now source) (rowsIn (c .rows) (now rows)) (c .values) (itemsOf schema))) ≤ length (now out)) ⌝ }
+    ensures { λ r. ⌜ Puts
+        (putPart number mark (putItems (now (source .entry)) (rowsIn (c .rows) (now (rows .entry))) (c .values) (itemsOf schema)))
+        (now (out .entry)) at r (now (out .exit)) ⌝ }
 {
     if mark == 0 {
         return at;
@@ -181,8 +197,11 @@ fn put_init(
     out: &mut [u8],
     at: usize,
 ) -> usize
-    requires { ⌜ RowsIn (c .rows) (now source) (now rows) × (initWithin (length (now source)) (c .values) ≡ true) × (sizes ≡ initSizes (rowsIn (c .rows) (now rows)) (c .values)) × (at + length (putInit (now source) (rowsIn (c .rows) (now rows)) (c .values)) ≤ length (now out)) ⌝ }
-    ensures { λ r. ⌜ Puts (putInit (now (source .entry)) (rowsIn (c .rows) (now (rows .entry))) (c .values)) (now (out .entry)) at r (now (out .exit)) ⌝ }
+    requires { ⌜ RowsIn (c .rows) (now source) (now rows) × (initWithin (length (now source)) (c .values) ≡ true)
+        × (sizes ≡ initSizes (rowsIn (c .rows) (now rows)) (c .values))
+        × (at + length (putInit (now source) (rowsIn (c .rows) (now rows)) (c .values)) ≤ length (now out)) ⌝ }
+    ensures { λ r. ⌜ Puts (putInit (now (source .entry)) (rowsIn (c .rows) (now (rows .entry))) (c .values)) (now (out .entry)) at r
+        (now (out .exit)) ⌝ }
 {
     let first = put_part(
         1,
@@ -219,8 +238,11 @@ pub(crate) fn put_message(
     out: &mut [u8],
     at: usize,
 ) -> usize
-    requires { ⌜ RowsIn (c .rows) (now source) (now rows) × (messageWithin (length (now source)) (c .values) schema ≡ true) × (sizes ≡ sizesOf (rowsIn (c .rows) (now rows)) (c .values) schema) × (at + length (putMessage (now source) (rowsIn (c .rows) (now rows)) (c .values) schema) ≤ length (now out)) ⌝ }
-    ensures { λ r. ⌜ Puts (putMessage (now (source .entry)) (rowsIn (c .rows) (now (rows .entry))) (c .values) schema) (now (out .entry)) at r (now (out .exit)) ⌝ }
+    requires { ⌜ RowsIn (c .rows) (now source) (now rows) × (messageWithin (length (now source)) (c .values) schema ≡ true)
+        × (sizes ≡ sizesOf (rowsIn (c .rows) (now rows)) (c .values) schema)
+        × (at + length (putMessage (now source) (rowsIn (c .rows) (now rows)) (c .values) schema) ≤ length (now out)) ⌝ }
+    ensures { λ r. ⌜ Puts (putMessage (now (source .entry)) (rowsIn (c .rows) (now (rows .entry))) (c .values) schema) (now (out .entry))
+        at r (now (out .exit)) ⌝ }
 {
     if schema == INIT {
         return put_init(c, sizes, source, rows, out, at);

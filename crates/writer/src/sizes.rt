@@ -1,20 +1,20 @@
 // How many bytes a message takes, by the lengths only.
 use crate::entry::MapEntry;
 use crate::entry::entry_at;
-use decoder::INIT;
-use decoder::REQUEST_META;
-use decoder::RESPONSE_META;
-use outgoing::Content;
-use outgoing::Item;
-use outgoing::MAX_FIELDS;
-use outgoing::item_at;
+use records::Content;
+use schema::INIT;
+use schema::Item;
+use schema::MAX_FIELDS;
+use schema::REQUEST_META;
+use schema::RESPONSE_META;
+use schema::item_at;
 ghost use mathlib.Core.Path.{_≡_};
 ghost use Prim.Native.Nat.{_+_, _≤_, _<_};
 ghost use lib.ListN.{length, getD};
 ghost use Rattle.wire_write.specs.Writing.{putTag};
 ghost use Rattle.decoder.specs.Rows.{rowsIn};
 ghost use Rattle.writer.specs.Encoding.{wide, putNumber};
-ghost use Rattle.outgoing.specs.Items.{itemsOf, Placed};
+ghost use Rattle.schema.specs.Items.{itemsOf, Placed};
 ghost use Rattle.writer.specs.Items.{integerOf, rowOf, bytesSize, entrySize, rowsSize, sizeIf, itemSize, itemsSize};
 ghost use Rattle.writer.specs.Items.{initSizes, sizesOf, mostRow, mostItem, mostFields, mostMessage, Lent};
 

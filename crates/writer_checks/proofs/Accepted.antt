@@ -7,10 +7,10 @@ use native.Mathlib.Omega.{arith}
 use borrow.Author.Tests.{leb-true}
 use lib.Dec.{leb, eqb}
 use lib.ListN.{length}
-use Rattle.deframer.proofs.Codes.{kept, both}
+use Rattle.laws.proofs.Booleans.{kept, both}
 use Rattle.decoder.specs.Rows.{rowsIn}
-use Rattle.message.specs.Records.{schemaOf}
-use Rattle.message.specs.declared.Kind.{Kind}
+use Rattle.schema.specs.Kinds.{schemaOf}
+use Rattle.schema.specs.declared.Kind.{Kind}
 use Rattle.writer_checks.specs.Grounds.{maxRows, hasMap, rowsOk, spansWithin, rowsWithin, keysDiffer, absentOk, bodyOk, contentError}
 
 pub record Accepted (kind : Kind) (slots : List ℕ) (count : ℕ) (source numbers : List ℕ) (bodySize : ℕ) : Type 0 where

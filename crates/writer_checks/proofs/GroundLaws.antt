@@ -1,28 +1,33 @@
 -- The grounds as loops find them. Of a loop that tests one thing after the other: the answer for what is left is that for all (`left`), and
 -- a test that fails is the answer.
-use Prim.Native.Nat.{ℕ, zero, suc, _+_, _*_, _<_, _≤_}
-use mathlib.Core.Path.{_≡_, refl, sym, ap, _∙_}
-use mathlib.Core.Bool.{Bool, true, false, not, cond, _&&_, _||_}
+use Prim.Native.Nat.{ℕ, zero, suc, _+_, _*_, _-_, _<_, _≤_}
+use mathlib.Core.Path.{_≡_, refl, sym, ap, ap₂, _∙_}
+use mathlib.Core.Bool.{Bool, true, false, not, cond, _&&_, _||_, and-true}
 use mathlib.Core.List.{List, [], _∷_}
 use native.Mathlib.Omega.{arith}
 use native.Mathlib.Numerals.{add-one}
-use borrow.Author.Tests.{leb-true}
+use borrow.Author.Tests.{leb-true, eq-eqb, ne-eqb, eqb-true, eqb-false}
 use lib.Dec.{leb, eqb}
-use lib.ListN.{length, drop, getD, drop-of-length-le}
-use Rattle.deframer.proofs.Codes.{both}
-use Rattle.deframer.proofs.Tests.{fails, holds}
-use Rattle.decoder.specs.Schema.{done, request, response, init, feedback, close, requestMeta, responseMeta, width, schemaAt, partSchema, slotAt}
-use Rattle.decoder.specs.Rows.{Row, rowsIn}
-use Rattle.decoder.specs.Fields.{partOf, sameBytes}
-use Rattle.message.specs.Records.{schemaOf}
-use Rattle.message.specs.declared.Kind.{Kind}
-use Rattle.message.specs.declared.Kind.the-variants as kinds
-use Rattle.decoder.proofs.RowLaws.{length-rowsIn, rowAt}
+use lib.ListN.{length, drop, getD, drop-of-length-le, length-drop}
+use Rattle.laws.proofs.Booleans.{both}
+use Rattle.laws.proofs.Tests.{fails, holds}
+use Rattle.schema.specs.Schema.{done, request, response, init, feedback, close}
+use Rattle.schema.specs.Schema.{requestMeta, responseMeta, width, schemaAt, partSchema, slotAt}
+use Rattle.decoder.specs.Rows.{Row, rowsIn, rowsLent}
+use Rattle.decoder.specs.Fields.{partOf, sameBytes, keyPlace}
+use Rattle.schema.specs.Kinds.{schemaOf}
+use Rattle.schema.specs.declared.Kind.{Kind}
+use Rattle.schema.specs.declared.Kind.the-variants as kinds
+use Rattle.decoder.proofs.RowLaws.{length-rowsIn, all-lent, rowAt, rows-from}
+use Rattle.decoder.proofs.PartEnds.{part-rest}
+use Rattle.wire_read.specs.Part.{part}
 use Rattle.writer_checks.specs.Grounds.{maxRows, hasMap, rowsOk, spansWithin, rowsWithin, noKey, keysDiffer, allZero, absentOk}
-use Rattle.outgoing.specs.Items.{items, noItem, Placed, itemsOf, itemWithin, itemsWithin, itemZero, itemsZero}
-use Rattle.outgoing.specs.declared.Item.{Item}
+use Rattle.schema.proofs.ItemLaws.{few-items}
+use Rattle.schema.specs.Items.{items, noItem, Placed, itemsOf}
+use Rattle.writer_checks.specs.ItemGrounds.{itemWithin, itemsWithin, itemZero, itemsZero}
+use Rattle.schema.specs.declared.Item.{Item}
 
--- ---- one test `t` of what is left, and `later` behind it
+-- ---- one test `t` of what is left, and `later` after it
 module _ {all here : Bool} (t later : Bool) (left : all ≡ here) (is-here : here ≡ t && later) where
   pub stops : t ≡ false → false ≡ all
   stops e = sym (left ∙ is-here ∙ ap (λ (x : Bool). x && later) e)
@@ -31,26 +36,6 @@ module _ {all here : Bool} (t later : Bool) (left : all ≡ here) (is-here : her
   goes e = left ∙ is-here ∙ ap (λ (x : Bool). x && later) e
 
 -- ---- the fields of a message
--- the largest message has 12
-pub few-items : (schema : ℕ) → length (itemsOf schema) ≤ 12
-unfolding items partSchema slotAt schemaAt width
-few-items n = by (eqb n 6) (eqb n 7) (eqb n 0) (eqb n 1) (eqb n 2) (eqb n 4) (eqb n 5)
-  where
-    by : (six seven zero one two four five : Bool)
-        → length (items
-        (cond six requestMeta
-        (cond seven responseMeta (cond zero request (cond one response (cond two init (cond four feedback (cond five close done)))))))
-        (cond six 1 (cond seven 9 0)))
-        ≤ 12
-    by true b c d e f g = omega arith
-    by false true c d e f g = omega arith
-    by false false true d e f g = omega arith
-    by false false false true e f g = omega arith
-    by false false false false true f g = omega arith
-    by false false false false false true g = omega arith
-    by false false false false false false true = omega arith
-    by false false false false false false false = omega arith
-
 -- a test of each field, which holds where there is no more
 pub record Each (test : Item → Bool) (all : List Item → Bool) : Type 0 where
   pub at-end : test noItem ≡ true
@@ -107,11 +92,6 @@ module _ (n : ℕ) (l : List ℕ) (i : ℕ) where
     unfolding rowsWithin
     within-at size = rw (rowAt n l i some, add-one i)
 
-    pub no-key-at : (source key : List ℕ) → noKey source key (drop i (rowsIn n l))
-        ≡ not (sameBytes (partOf source (getD l (i * 4) 0) (getD l (i * 4 + 1) 0)) key) && noKey source key (drop (i + 1) (rowsIn n l))
-    unfolding noKey
-    no-key-at source key = rw (rowAt n l i some, add-one i)
-
     pub differ-at : (source : List ℕ) → keysDiffer source (drop i (rowsIn n l))
         ≡ noKey source (partOf source (getD l (i * 4) 0) (getD l (i * 4 + 1) 0)) (drop (i + 1) (rowsIn n l)) && keysDiffer source
         (drop (i + 1) (rowsIn n l))
@@ -129,6 +109,40 @@ module _ (n : ℕ) (l : List ℕ) (i : ℕ) where
         let b = both key value (a .0) in
         (leb-true _ _ (b .0), leb-true _ _ (b .1))
 
+-- ---- a key among the rows
+suc-eqb : (a b : ℕ) → eqb (suc a) (suc b) ≡ eqb a b
+suc-eqb a b = by (eqb a b) refl
+  where
+    by : (t : Bool) → eqb a b ≡ t → eqb (suc a) (suc b) ≡ t
+    by true e = eq-eqb (suc a) (suc b) (ap suc (eqb-true a b e))
+    by false e = ne-eqb (suc a) (suc b) (λ (q : suc a ≡ suc b). omega (arith, eqb-false a b e))
+
+no-key-place : (source key : List ℕ) (rs : List Row) → noKey source key rs ≡ eqb (keyPlace source key rs) (length rs)
+unfolding noKey keyPlace
+no-key-place source key [] = refl
+no-key-place source key (r ∷ rs) = by (sameBytes (partOf source (r .key) (r .keySize)) key) (no-key-place source key rs)
+  where
+    by : (t : Bool) → noKey source key rs ≡ eqb (keyPlace source key rs) (length rs)
+        → not t && noKey source key rs ≡ eqb (cond t 0 (suc (keyPlace source key rs))) (suc (length rs))
+    by true e = sym (ne-eqb 0 (suc (length rs)) (λ (q : 0 ≡ suc (length rs)). omega arith))
+    by false e = e ∙ sym (suc-eqb (keyPlace source key rs) (length rs))
+
+-- what `find_key` answers of the rows after row i
+pub none-after : (count i : ℕ) (source key numbers : List ℕ) (place : ℕ) → i < count → count * 4 ≤ length numbers
+    → place ≡ keyPlace source key (rowsLent (count - (i + 1)) (part numbers (i * 4 + 4) (length numbers)))
+    → eqb place (count - (i + 1)) ≡ noKey source key (drop (i + 1) (rowsIn count numbers))
+none-after count i source key numbers place some lent e =
+    let n = count - (i + 1) in
+    let four : i * 4 + 4 ≡ (i + 1) * 4 = omega arith in
+    let rest : part numbers (i * 4 + 4) (length numbers) ≡ drop ((i + 1) * 4) numbers = part-rest numbers (i * 4 + 4)
+    ∙ ap (λ (k : ℕ). drop k numbers) four in
+    let long = length-drop ((i + 1) * 4) numbers in
+    let rows : rowsLent n (part numbers (i * 4 + 4) (length numbers)) ≡ drop (i + 1) (rowsIn count numbers) =
+    ap (rowsLent n) rest ∙ all-lent n (drop ((i + 1) * 4) numbers) (omega arith) ∙ sym (rows-from count (i + 1) numbers) in
+    let size : length (drop (i + 1) (rowsIn count numbers)) ≡ n = length-drop (i + 1) (rowsIn count numbers)
+    ∙ omega (arith, length-rowsIn count numbers) in
+    sym (no-key-place source key (drop (i + 1) (rowsIn count numbers)) ∙ ap₂ eqb (sym (e ∙ ap (keyPlace source key) rows)) size)
+
 pub rows-lent : (kind : Kind) (count lent : ℕ) → rowsOk kind count lent ≡ true → count * 4 ≤ lent
 unfolding rowsOk
 rows-lent kind count lent e = leb-true _ _ (both (leb count maxRows && (hasMap kind || eqb count 0)) (leb (count * 4) lent) e .1)
@@ -143,10 +157,6 @@ within-init size slots = refl
 -- a part is marked present, or has nothing in it
 abbrev pub partOk : List Row → (mark schema : ℕ) → (slots : List ℕ) → Bool
 partOk rows mark schema slots = not (eqb mark 0) || itemsZero rows slots (itemsOf schema)
-
-and-true : (b : Bool) → b && true ≡ b
-and-true true = refl
-and-true false = refl
 
 pub absent-init : (rows : List Row) (slots : List ℕ)
     → absentOk rows init 0 slots ≡ partOk rows (getD slots 0 0) 6 slots && partOk rows (getD slots 8 0) 7 slots

@@ -4,13 +4,14 @@ use mathlib.Core.Bool.{Bool, true, false, not, _&&_, _||_}
 use mathlib.Core.List.{List, [], _∷_}
 use lib.ListN.{length, getD}
 use lib.Dec.{leb, eqb}
-use Rattle.decoder.specs.Schema.{Schema, done, number, bytes, map, message, width}
-use Rattle.deframer.specs.Header.{unless}
+use Rattle.schema.specs.Schema.{Schema, done, number, bytes, map, message, width}
+use Rattle.laws.specs.Chains.{unless}
 use Rattle.decoder.specs.Rows.{Row, rowsIn}
 use Rattle.decoder.specs.Fields.{partOf, sameBytes}
-use Rattle.message.specs.Records.{attachmentSizeOf, schemaOf}
-use Rattle.message.specs.declared.Kind.{Kind}
-use Rattle.message.specs.declared.Kind.the-variants as kinds
+use Rattle.records.specs.Records.{attachmentSizeOf}
+use Rattle.schema.specs.Kinds.{schemaOf}
+use Rattle.schema.specs.declared.Kind.{Kind}
+use Rattle.schema.specs.declared.Kind.the-variants as kinds
 
 -- ---- 18: "over 64 rows, rows with Feedback or Data, row slice too short for them"
 abbrev pub maxRows : ℕ

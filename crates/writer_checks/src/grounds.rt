@@ -1,28 +1,29 @@
 // The grounds on which a record is refused before its size is known, in document 01's order.
-use decoder::CLOSE;
-use decoder::FEEDBACK;
-use decoder::INIT;
-use decoder::REQUEST;
-use decoder::REQUEST_META;
-use decoder::RESPONSE;
-use decoder::RESPONSE_META;
-use decoder::same_key;
-use message::Kind;
-use outgoing::Item;
-use outgoing::MAX_FIELDS;
-use outgoing::item_at;
+use decoder::find_key;
+use schema::CLOSE;
+use schema::FEEDBACK;
+use schema::INIT;
+use schema::Item;
+use schema::Kind;
+use schema::MAX_FIELDS;
+use schema::REQUEST;
+use schema::REQUEST_META;
+use schema::RESPONSE;
+use schema::RESPONSE_META;
+use schema::item_at;
 ghost use mathlib.Core.Path.{_≡_};
-ghost use mathlib.Core.Bool.{true, not, _&&_, _||_};
+ghost use mathlib.Core.Bool.{not, _&&_, _||_};
 ghost use mathlib.Core.List.{[]};
 ghost use Prim.Native.Nat.{_+_, _*_, _<_, _≤_};
 ghost use lib.Dec.{leb, eqb};
 ghost use lib.ListN.{length, drop, getD};
-ghost use Rattle.decoder.specs.Schema.{init, partSchema, slotAt};
+ghost use Rattle.schema.specs.Schema.{init, partSchema, slotAt};
 ghost use Rattle.decoder.specs.Rows.{rowsIn};
-ghost use Rattle.decoder.specs.Fields.{partOf, sameBytes};
-ghost use Rattle.message.specs.Records.{schemaOf};
+ghost use Rattle.decoder.specs.Fields.{partOf};
+ghost use Rattle.schema.specs.Kinds.{schemaOf};
 ghost use Rattle.writer_checks.specs.Grounds.{hasMap, rowsOk, spansWithin, rowsWithin, noKey, keysDiffer, absentOk, bodyOk};
-ghost use Rattle.outgoing.specs.Items.{items, Placed, itemWithin, itemsWithin, itemZero, itemsZero};
+ghost use Rattle.schema.specs.Items.{items, Placed};
+ghost use Rattle.writer_checks.specs.ItemGrounds.{itemWithin, itemsWithin, itemZero, itemsZero};
 
 const MAX_ROWS: u32 = 64;
 
@@ -155,32 +156,20 @@ pub(crate) fn rows_within(rows: &[u32], count: usize, size: usize) -> bool
 
 // No row after row i has its key.
 fn no_key(source: &[u8], rows: &[u32], count: usize, i: usize) -> bool
-    requires { ⌜ (i < count) × (count * 4 ≤ length (now rows)) × (rowsWithin (length (now source)) (rowsIn count (now rows)) ≡ true) ⌝ }
+    requires { ⌜ (i < count) × (count * 4 ≤ length (now rows)) ⌝ }
     ensures { λ r. ⌜ r ≡ noKey (now (source .entry))
         (partOf (now (source .entry)) (getD (now (rows .entry)) (i * 4) 0) (getD (now (rows .entry)) (i * 4 + 1) 0))
         (drop (i + 1) (rowsIn count (now (rows .entry)))) ⌝ }
 {
-    let key = rows[i * 4] as usize;
-    let key_size = rows[i * 4 + 1] as usize;
-    let mut j = i + 1;
-    while j < count {
-        let at = j * 4;
-        if same_key(
-            source,
-            rows[at] as usize,
-            rows[at + 1] as usize,
-            key,
-            key_size,
-        ) {
-            return false;
-        }
-        j += 1;
-    }
-    true
+    let at = i * 4;
+    let key = rows[at] as usize;
+    let key_size = rows[at + 1] as usize;
+    let after = count - (i + 1);
+    find_key(source, &rows[at + 4..], after, key, key_size) == after
 }
 
 pub(crate) fn keys_differ(source: &[u8], rows: &[u32], count: usize) -> bool
-    requires { ⌜ (count * 4 ≤ length (now rows)) × (rowsWithin (length (now source)) (rowsIn count (now rows)) ≡ true) ⌝ }
+    requires { ⌜ count * 4 ≤ length (now rows) ⌝ }
     ensures { λ r. ⌜ r ≡ keysDiffer (now (source .entry)) (rowsIn count (now (rows .entry))) ⌝ }
 {
     let mut i = 0;

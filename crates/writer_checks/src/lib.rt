@@ -7,21 +7,15 @@ use grounds::keys_differ;
 use grounds::rows_ok;
 use grounds::rows_within;
 use grounds::spans_within;
-use outgoing::Content;
+use records::Content;
+use refusals::BAD_BODY;
+use refusals::BAD_ROWS;
+use refusals::PAST_SOURCE;
 ghost use mathlib.Core.Path.{_≡_};
 ghost use Rattle.writer_checks.specs.Grounds.{contentError};
 
-// 15: "attachment larger than body; writer: a body with Init, Feedback or Close"
-const BAD_BODY: u32 = 15;
-
-// 17: "a start plus length past the end of the source bytes, empty fields too"
-const PAST_SOURCE: u32 = 17;
-
-// 18: "over 64 rows, rows with Feedback or Data, row slice too short for them, equal keys"
-const BAD_ROWS: u32 = 18;
-
 // 18: "or a meta part marked absent and not all zero, empty and rowless"
-const BAD_PART: u32 = 18;
+const BAD_PART: u32 = BAD_ROWS;
 
 // The error code of the first ground that holds, 0 for none.
 pub fn content_error(c: Content, source: &[u8], rows: &[u32], body_size: usize) -> u32

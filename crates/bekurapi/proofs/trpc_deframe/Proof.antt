@@ -6,18 +6,6 @@ use Rattle.bekurapi.specs.Answers.{progressError, progressSize}
 use Rattle.bekurapi.proofs.trpc_deframe.Statement.{statement}
 use Rattle.bekurapi.proofs.trpc_deframe.Tie as tie
 
-deframe-requires : tie.Need-deframe-requires
-deframe-requires c κs = search needs
-
-progress-size-requires : tie.Need-progress-size-requires
-progress-size-requires c κs = search needs
-
-progress-error-requires : tie.Need-progress-error-requires
-progress-error-requires c κs = search needs
-
-same-length : tie.Need-same-length
-same-length c = search needs
-
 returns : tie.Need-returns
 returns c =
     let gave = c .before .before .before .before .before .deframe .ensures in
@@ -33,4 +21,4 @@ returns c =
 pub trpc-deframe-spec : {M : Type 1} → statement M
 trpc-deframe-spec =
     tie.close
-    (tie.spec deframe-requires progress-size-requires progress-error-requires same-length returns)
+    (tie.spec (λ c κs. search needs) (λ c κs. search needs) (λ c κs. search needs) (λ c. search needs) returns)

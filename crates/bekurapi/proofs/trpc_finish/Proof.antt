@@ -5,15 +5,6 @@ use Rattle.bekurapi.specs.Answers.{endError, endShort}
 use Rattle.bekurapi.proofs.trpc_finish.Statement.{statement}
 use Rattle.bekurapi.proofs.trpc_finish.Tie as tie
 
-finish-requires : tie.Need-finish-requires
-finish-requires c κs = search needs
-
-end-short-requires : tie.Need-end-short-requires
-end-short-requires c κs = search needs
-
-end-error-requires : tie.Need-end-error-requires
-end-error-requires c κs = search needs
-
 returns : tie.Need-returns
 returns c =
     let end = c .before .before .finish .ensures in
@@ -21,4 +12,4 @@ returns c =
 
 pub trpc-finish-spec : {M : Type 1} → statement M
 trpc-finish-spec =
-    tie.close (tie.spec finish-requires end-short-requires end-error-requires returns)
+    tie.close (tie.spec (λ c κs. search needs) (λ c κs. search needs) (λ c κs. search needs) returns)

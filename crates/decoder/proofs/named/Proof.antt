@@ -5,12 +5,6 @@ use Rattle.decoder.proofs.PartEnds.{least-named}
 use Rattle.decoder.proofs.named.Statement.{statement}
 use Rattle.decoder.proofs.named.Tie as tie
 
-returns : tie.Need-returns
-returns c =
-    let at-least = c .before .before in
-    let args = at-least .before .before .args in
-    least-named (args .bytes .now) (args .start) (args .size) _ _ (at-least .least .ensures) (omega (arith, c .before .least2 .ensures))
-
 pub named-spec : {M : Type 1} → statement M
 named-spec =
     tie.close
@@ -22,4 +16,8 @@ named-spec =
     (λ c. search needs)
     (λ c. search needs)
     (λ c. search needs)
-    returns)
+    (λ c.
+    let at-least = c .before .before in
+    let args = at-least .before .before .args in
+    least-named (args .bytes .now) (args .start) (args .size) _ _ (at-least .least .ensures)
+    (omega (arith, c .before .least2 .ensures))))

@@ -3,12 +3,9 @@ use native.Mathlib.Omega.{arith}
 use borrow.Author.Needs.{needs}
 use Rattle.deframer.proofs.Advance.{call-small, call-unknown, call-refused, call-moves, called-refused, called-moved, from-start}
 use Rattle.deframer.proofs.Known.{known-good}
-use Rattle.deframer.proofs.Tests.{fails, holds}
+use Rattle.laws.proofs.Tests.{fails, holds}
 use Rattle.deframer.proofs.deframe.Statement.{statement}
 use Rattle.deframer.proofs.deframe.Tie as tie
-
-refused-requires : tie.Need-refused-requires
-refused-requires c κs = search needs
 
 returns : tie.Need-returns
 returns c =
@@ -16,28 +13,14 @@ returns c =
     called-refused (start .args .state) (start .args .buffer .now) (start .args .piece .now) 1 _ (c .refused .ensures)
     (call-small (start .args .state) (start .args .buffer .now) (start .args .piece .now) (c .before .if1 .taken))
 
-known-requires : tie.Need-known-requires
-known-requires c κs = search needs
-
-refused-requires-2 : tie.Need-refused-requires-2
-refused-requires-2 c κs = search needs
-
-same-length : tie.Need-same-length
-same-length c = search needs
-
 returns-2 : tie.Need-returns-2
 returns-2 c =
     let at-known = c .before .before in
     let at-if1 = at-known .before .before in
     let start = at-if1 .before .before .before in
     called-refused (start .args .state) (start .args .buffer .now) (start .args .piece .now) 2 _ (c .refused2 .ensures)
-    (call-unknown (start .args .state) (start .args .buffer .now) (start .args .piece .now) (at-if1 .if1 .left) (fails (at-known .known .ensures) (c .before .if2 .taken)))
-
-refused-requires-3 : tie.Need-refused-requires-3
-refused-requires-3 c κs = search needs
-
-same-length-2 : tie.Need-same-length-2
-same-length-2 c = search needs
+    (call-unknown (start .args .state) (start .args .buffer .now) (start .args .piece .now) (at-if1 .if1 .left)
+    (fails (at-known .known .ensures) (c .before .if2 .taken)))
 
 returns-3 : tie.Need-returns-3
 returns-3 c =
@@ -46,7 +29,8 @@ returns-3 c =
     let at-if1 = at-known .before .before in
     let start = at-if1 .before .before .before in
     called-refused (start .args .state) (start .args .buffer .now) (start .args .piece .now) _ _ (c .refused3 .ensures)
-    (call-refused (start .args .state) (start .args .buffer .now) (start .args .piece .now) (at-if1 .if1 .left) (holds (at-known .known .ensures) (at-if2 .if2 .left)) (c .before .if3 .taken))
+    (call-refused (start .args .state) (start .args .buffer .now) (start .args .piece .now) (at-if1 .if1 .left)
+    (holds (at-known .known .ensures) (at-if2 .if2 .left)) (c .before .if3 .taken))
 
 body-requires : tie.Need-body-requires
 body-requires c κs =
@@ -54,12 +38,10 @@ body-requires c κs =
     let at-if2 = at-if3 .before in
     let at-known = at-if2 .before in
     let start = at-known .before .before .before .before .before in
-    let good = known-good (start .args .state) (start .args .buffer .now) (at-if3 .if3 .left) (holds (at-known .known .ensures) (at-if2 .if2 .left))
+    let good = known-good (start .args .state) (start .args .buffer .now) (at-if3 .if3 .left)
+    (holds (at-known .known .ensures) (at-if2 .if2 .left))
     (c .before .if4 .taken) in
     (omega arith, good .0, omega arith, omega arith, omega arith, omega arith)
-
-same-length-3 : tie.Need-same-length-3
-same-length-3 c = search needs
 
 returns-4 : tie.Need-returns-4
 returns-4 c =
@@ -70,14 +52,9 @@ returns-4 c =
     let at-if1 = at-known .before .before in
     let start = at-if1 .before .before .before in
     called-moved (start .args .state) (start .args .buffer .now) (start .args .piece .now) _ _
-    (call-moves (start .args .state) (start .args .buffer .now) (start .args .piece .now) (at-if1 .if1 .left) (holds (at-known .known .ensures) (at-if2 .if2 .left)) (at-if3 .if3 .left))
+    (call-moves (start .args .state) (start .args .buffer .now) (start .args .piece .now) (at-if1 .if1 .left)
+    (holds (at-known .known .ensures) (at-if2 .if2 .left)) (at-if3 .if3 .left))
     (from-start _ _ (start .args .buffer .now) (start .args .piece .now) (start .args .state .held) (at-body .body .ensures))
-
-head-requires : tie.Need-head-requires
-head-requires c κs = search needs
-
-same-length-4 : tie.Need-same-length-4
-same-length-4 c = search needs
 
 returns-5 : tie.Need-returns-5
 returns-5 c =
@@ -88,25 +65,13 @@ returns-5 c =
     let at-if1 = at-known .before .before in
     let start = at-if1 .before .before .before in
     called-moved (start .args .state) (start .args .buffer .now) (start .args .piece .now) _ _
-    (call-moves (start .args .state) (start .args .buffer .now) (start .args .piece .now) (at-if1 .if1 .left) (holds (at-known .known .ensures) (at-if2 .if2 .left)) (at-if3 .if3 .left))
+    (call-moves (start .args .state) (start .args .buffer .now) (start .args .piece .now) (at-if1 .if1 .left)
+    (holds (at-known .known .ensures) (at-if2 .if2 .left)) (at-if3 .if3 .left))
     (at-head .head .ensures)
 
 pub deframe-spec : {M : Type 1} → statement M
 deframe-spec =
     tie.close
-    (tie.spec
-    refused-requires
-    returns
-    known-requires
-    refused-requires-2
-    same-length
-    returns-2
-    refused-requires-3
-    same-length-2
-    returns-3
-    body-requires
-    same-length-3
-    returns-4
-    head-requires
-    same-length-4
-    returns-5)
+    (tie.spec (λ c κs. search needs) returns (λ c κs. search needs) (λ c κs. search needs) (λ c. search needs) returns-2
+    (λ c κs. search needs) (λ c. search needs) returns-3 body-requires (λ c. search needs) returns-4 (λ c κs. search needs)
+    (λ c. search needs) returns-5)

@@ -1,16 +1,13 @@
 -- Branch by branch, the definition's tests.
 use borrow.Author.Needs.{needs}
 use Rattle.deframer.specs.Deframe.{ended}
-use Rattle.deframer.proofs.Tests.{tests, fails, holds}
+use Rattle.laws.proofs.Tests.{tests, fails, holds}
 use Rattle.deframer.proofs.finish.Statement.{statement}
 use Rattle.deframer.proofs.finish.Tie as tie
 
 returns : tie.Need-returns
 unfolding ended
 returns c = search (needs, tests)
-
-known-requires : tie.Need-known-requires
-known-requires c κs = search needs
 
 returns-2 : tie.Need-returns-2
 unfolding ended
@@ -37,4 +34,4 @@ returns-5 c =
     rw (holds (at-known .known .ensures) (at-if2 .if2 .left)) (search (needs, tests))
 
 pub finish-spec : {M : Type 1} → statement M
-finish-spec = tie.close (tie.spec returns known-requires returns-2 returns-3 returns-4 returns-5)
+finish-spec = tie.close (tie.spec returns (λ c κs. search needs) returns-2 returns-3 returns-4 returns-5)

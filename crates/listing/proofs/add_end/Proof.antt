@@ -2,7 +2,7 @@
 use mathlib.Core.Path.{ap}
 use native.Mathlib.Omega.{arith}
 use Rattle.listing.specs.Lines.{endLine}
-use Rattle.listing.proofs.Adding.{adds-as}
+use Rattle.text.proofs.Adding.{adds-as}
 use borrow.Author.Needs.{needs}
 use Rattle.listing.proofs.add_end.Statement.{statement}
 use Rattle.listing.proofs.add_end.Tie as tie

@@ -3,7 +3,7 @@ use Prim.Native.Nat.{ℕ}
 use mathlib.Core.Path.{refl, ap}
 use native.Mathlib.Omega.{arith}
 use Rattle.listing.specs.Lines.{frameLine}
-use Rattle.listing.proofs.Adding.{adds-as}
+use Rattle.text.proofs.Adding.{adds-as}
 use borrow.Author.Needs.{needs}
 use Rattle.listing.proofs.add_frame.Statement.{statement}
 use Rattle.listing.proofs.add_frame.Tie as tie

@@ -1,4 +1,4 @@
--- The slice is what is left of the piece. How much of it the deframer takes are the laws of `frame`.
+-- The slice is what is left of the piece. How much of it the deframer takes are the laws of `deframer`.
 use Prim.Native.Nat.{ℕ, _+_, _-_, _≤_, _<_}
 use mathlib.Core.Path.{_≡_, ap, _∙_}
 use mathlib.Core.Bool.{false}
@@ -7,7 +7,7 @@ use native.Mathlib.Omega.{arith}
 use lib.ListN.{length, take, drop, length-drop}
 use lib.Seq.{take-all}
 use Rattle.deframer.specs.Deframe.{deframed}
-use Rattle.deframer.specs.Calls.{isRefused}
+use Rattle.deframer.specs.Deframe.{isRefused}
 use Rattle.deframer.specs.declared.Deframer.{Deframer}
 use Rattle.deframer.specs.declared.Step.{Step}
 use Rattle.deframer.proofs.Taken.{taken-within, taken-some}

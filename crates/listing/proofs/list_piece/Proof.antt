@@ -31,24 +31,17 @@ list-step-requires c κs = (omega arith, (omega arith, omega arith))
 
 loop-less : tie.Need-loop-less Inv-loop μ-loop
 loop-less c =
-    omega (
-      arith,
-      c .before .before .before .before .before .before .before .before .before .deframe-rest .ensures .1 .1 .1
-          (c .before .before .before .list-step .ensures .1 (c .if1 .left)),
-    )
+    let at-step = c .before .before .before in
+    let at-call = at-step .before .before .before .before .before .before in
+    omega (arith, at-call .deframe-rest .ensures .1 .1 .1 (at-step .list-step .ensures .1 (c .if1 .left)))
 
 loop-again : tie.Need-loop-again Inv-loop μ-loop
-loop-again c = (
-  omega arith,
-  omega arith,
-  omega arith,
-  omega arith,
-  another
-      (c .before .before .before .before .before .before .before .before .before .before .before .before .loop .inv .4)
-      (c .before .before .before .before .before .before .before .before .before .deframe-rest .ensures .0)
-      (c .before .before .before .before .before .before .before .before .before .deframe-rest .ensures .1 .0)
-      (c .before .before .before .list-step .ensures .2),
-)
+loop-again c =
+    let at-step = c .before .before .before in
+    let at-call = at-step .before .before .before .before .before .before in
+    let called = at-call .deframe-rest .ensures in
+    let before = at-call .before .before .before .loop .inv .4 in
+    (omega arith, omega arith, omega arith, omega arith, another before (called .0) (called .1 .0) (at-step .list-step .ensures .2))
 
 same-length : tie.Need-same-length Inv-loop μ-loop
 same-length c = omega arith
@@ -73,18 +66,18 @@ same-length-4 : tie.Need-same-length-4 Inv-loop μ-loop
 same-length-4 c = omega arith
 
 returns-2 : tie.Need-returns-2 Inv-loop μ-loop
-returns-2 c = (
-  omega arith,
-  record {
-    taken = _;
-    steps = another
-        (c .before .before .before .before .before .before .before .before .before .before .before .before .loop .inv .4)
-        (c .before .before .before .before .before .before .before .before .before .deframe-rest .ensures .0)
-        (c .before .before .before .before .before .before .before .before .before .deframe-rest .ensures .1 .0)
-        (c .before .before .before .list-step .ensures .2);
-    to-its-end = inl (c .if1 .taken);
-  },
-)
+returns-2 c =
+    let at-step = c .before .before .before in
+    let at-call = at-step .before .before .before .before .before .before in
+    let called = at-call .deframe-rest .ensures in
+    let before = at-call .before .before .before .loop .inv .4 in (
+      omega arith,
+      record {
+        taken = _;
+        steps = another before (called .0) (called .1 .0) (at-step .list-step .ensures .2);
+        to-its-end = inl (c .if1 .taken);
+      },
+    )
 
 pub list-piece-spec : {M : Type 1} → statement M
 list-piece-spec =

@@ -2,7 +2,7 @@
 use mathlib.Core.Path.{refl, sym, ap, subst, _∙_}
 use native.Mathlib.Omega.{arith}
 use lib.Dec.{T}
-use Rattle.deframer.specs.Calls.{isRefused}
+use Rattle.deframer.specs.Deframe.{isRefused}
 use borrow.Author.Needs.{needs}
 use Rattle.listing.specs.Steps.{withDeframer}
 use Rattle.listing.proofs.Listed.{lists-case}

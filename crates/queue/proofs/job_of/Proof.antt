@@ -3,8 +3,5 @@ use borrow.Author.Needs.{needs}
 use Rattle.queue.proofs.job_of.Statement.{statement}
 use Rattle.queue.proofs.job_of.Tie as tie
 
-returns : tie.Need-returns
-returns c = search needs
-
 pub job-of-spec : {M : Type 1} → statement M
-job-of-spec = tie.close (tie.spec returns)
+job-of-spec = tie.close (tie.spec (λ c. search needs))

@@ -1,4 +1,4 @@
--- `queue_cases::full` ends: i counts up to 64.
+-- `full` ends: i counts up to 64.
 -- Assumes nothing.
 use Prim.Native.Nat.{_-_, _≤_}
 use borrow.Author.Needs.{needs}

@@ -11,11 +11,8 @@ use Rattle.wire_read.proofs.low_u32.Tie as tie
 masked : (v mask : ℕ) → mask < 4294967296 → Fits w32 (bitAnd v mask)
 masked v mask h = record { fits = omega (arith, and-le-r v mask) }
 
-cast-result : tie.Need-cast-result
-cast-result c = masked (c .args .v) _ (lit< tt)
-
-returns : tie.Need-returns
-returns c = and-mask (c .args .v) 32
-
 pub low-u32-spec : {M : Type 1} → statement M
-low-u32-spec = tie.close (tie.spec cast-result returns)
+low-u32-spec = tie.close
+    (tie.spec
+    (λ c. masked (c .args .v) _ (lit< tt))
+    (λ c. and-mask (c .args .v) 32))

@@ -1,10 +1,10 @@
--- `next_field` meets its contract. What stands behind the tag is the content of the part that starts there.
+-- `next_field` meets its contract. What comes after the tag is the content of the part that starts there.
 use Prim.Native.Nat.{ℕ, _+_, _-_}
 use mathlib.Core.Path.{_≡_, sym, _∙_}
 use mathlib.Core.List.{List}
 use lib.ListN.{drop}
 use borrow.Author.Needs.{needs}
-use Rattle.wire_read.specs.Fields.{noField, fieldError, content, behind, nextField}
+use Rattle.wire_read.specs.Fields.{noField, fieldError, content, fieldAfter, nextField}
 use Rattle.wire_read.specs.Part.{part}
 use Rattle.wire_read.specs.Placed.{tagAt, fieldAt}
 use Rattle.wire_read.specs.Tags.{wireType, tag}
@@ -13,7 +13,7 @@ use Rattle.wire_read.specs.declared.Field.{Field}
 use Rattle.wire_read.specs.declared.Tag.the-variants as tags
 use Rattle.wire_read.specs.declared.Tag.{Tag}
 use Rattle.wire_read.proofs.PartLaws.{part-drop}
-use Rattle.wire_read.proofs.Answers.{is-ended, is-tagError, is-field, fieldAt-behind}
+use Rattle.wire_read.proofs.Answers.{is-noTag, is-tagError, is-field, fieldAt-after}
 use Rattle.wire_read.proofs.next_field.Statement.{statement}
 use Rattle.wire_read.proofs.next_field.Tie as tie
 
@@ -21,7 +21,7 @@ module _ (s : List ℕ) (at end : ℕ) (t : Tag) (is-t : t ≡ tagAt at (tag (pa
   at-end : t ≡ tags.End → fields.End ≡ fieldAt at (nextField (part s at end))
   unfolding nextField fieldAt
   at-end e =
-      let g = is-ended at (tag (part s at end)) is-t e in
+      let g = is-noTag at (tag (part s at end)) is-t e in
       let z : nextField (part s at end) ≡ noField = cc in
       rw z
 
@@ -37,30 +37,14 @@ module _ (s : List ℕ) (at end : ℕ) (t : Tag) (is-t : t ≡ tagAt at (tag (pa
   unfolding nextField
   field-of n w start e r is-r =
       let g = is-field at (tag (part s at end)) is-t e in let g₀ = g .0 in
-      let z : nextField (part s at end) ≡ behind (start - at) (content n (wireType w) (drop (start - at) (part s at end))) = cc in
+      let z : nextField (part s at end) ≡ fieldAfter (start - at) (content n (wireType w) (drop (start - at) (part s at end))) = cc in
       is-r
-      ∙ sym (rw (z, part-drop s at end (start - at), fieldAt-behind at (start - at) (content n (wireType w) (part s (at + (start - at)) end)), g .1))
-
-read-tag-requires : tie.Need-read-tag-requires
-read-tag-requires c κs = search needs
-
-enum-told : tie.Need-enum-told
-enum-told c = search needs
-
-enum-known-t : tie.Need-enum-known-t
-enum-known-t c = search needs
-
-enum-known-t-2 : tie.Need-enum-known-t-2
-enum-known-t-2 c = search needs
-
-content-at-requires : tie.Need-content-at-requires
-content-at-requires c κs = search needs
-
-returns : tie.Need-returns
-returns c = at-end _ _ _ _ (c .before .before .read-tag .ensures) (c .enum-told .given .1)
-
-returns-2 : tie.Need-returns-2
-returns-2 c = bad-tag _ _ _ _ (c .before .before .before .read-tag .ensures) _ (c .before .t .given .1)
+      ∙ sym (rw (
+        z,
+        part-drop s at end (start - at),
+        fieldAt-after at (start - at) (content n (wireType w) (part s (at + (start - at)) end)),
+        g .1,
+      ))
 
 returns-3 : tie.Need-returns-3
 returns-3 c =
@@ -71,12 +55,7 @@ returns-3 c =
 pub next-field-spec : {M : Type 1} → statement M
 next-field-spec =
     tie.close
-    (tie.spec
-    read-tag-requires
-    enum-told
-    enum-known-t
-    enum-known-t-2
-    content-at-requires
-    returns
-    returns-2
+    (tie.spec (λ c κs. search needs) (λ c. search needs) (λ c. search needs) (λ c. search needs) (λ c κs. search needs)
+    (λ c. at-end _ _ _ _ (c .before .before .read-tag .ensures) (c .enum-told .given .1))
+    (λ c. bad-tag _ _ _ _ (c .before .before .before .read-tag .ensures) _ (c .before .t .given .1))
     returns-3)

@@ -1,4 +1,4 @@
--- `read_length` meets its contract. The length is a varint, and the bytes left behind it are those of the part less the ones it took.
+-- `read_length` meets its contract. The length is a varint, and the bytes left after it are those of the part less the ones it took.
 use Prim.Native.Nat.{ℕ, _-_, _<_, _≤_, min}
 use mathlib.Core.Path.{_≡_}
 use mathlib.Core.List.{List}
@@ -8,7 +8,7 @@ use borrow.Author.Tests.{le-leb, lt-leb}
 use borrow.Author.Needs.{needs}
 use Rattle.wire_read.specs.Part.{part}
 use Rattle.wire_read.specs.Placed.{varintAt, lengthAt}
-use Rattle.wire_read.specs.Tags.{within, lengthPrefix}
+use Rattle.wire_read.specs.Tags.{lengthWithin, lengthPrefix}
 use Rattle.wire_read.specs.Varint.{varint}
 use Rattle.wire_read.specs.declared.Length.the-variants as lengths
 use Rattle.wire_read.specs.declared.Varint.the-variants as varints
@@ -19,9 +19,10 @@ use Rattle.wire_read.proofs.Places.{value-place}
 use Rattle.wire_read.proofs.read_length.Statement.{statement}
 use Rattle.wire_read.proofs.read_length.Tie as tie
 
-module _ (s : List ℕ) (at end stop : ℕ) (is-stop : stop ≡ min end (length s)) (r : Varint) (is-r : r ≡ varintAt at (varint (part s at end))) where
+module _ (s : List ℕ) (at end stop : ℕ) (is-stop : stop ≡ min end (length s)) (r : Varint)
+    (is-r : r ≡ varintAt at (varint (part s at end))) where
   bad-varint : (code : ℕ) → r ≡ varints.Refused code → lengths.Refused code ≡ lengthAt at (lengthPrefix (part s at end))
-  unfolding lengthPrefix within lengthAt
+  unfolding lengthPrefix lengthWithin lengthAt
   bad-varint code e = let g = is-bad at (varint (part s at end)) is-r e in rw (g .0, g .1)
 
   module _ (size start : ℕ) (e : r ≡ varints.Value size start) where
@@ -32,25 +33,13 @@ module _ (s : List ℕ) (at end stop : ℕ) (is-stop : stop ≡ min end (length 
     left = omega (arith, part-length s at end, value-place s at end r is-r size start e)
 
     announced : size ≤ stop - start → lengths.Bytes start size ≡ lengthAt at (lengthPrefix (part s at end))
-    unfolding lengthPrefix within lengthAt
+    unfolding lengthPrefix lengthWithin lengthAt
     announced h =
         let g = is-got at (varint (part s at end)) is-r e in rw (g .0, left, le-leb size (stop - start) h, g .1)
 
     too-long : stop - start < size → lengths.Refused 12 ≡ lengthAt at (lengthPrefix (part s at end))
-    unfolding lengthPrefix within lengthAt
+    unfolding lengthPrefix lengthWithin lengthAt
     too-long h = let g = is-got at (varint (part s at end)) is-r e in rw (g .0, left, lt-leb size (stop - start) h)
-
-part-end-requires : tie.Need-part-end-requires
-part-end-requires c κs = search needs
-
-read-varint-requires : tie.Need-read-varint-requires
-read-varint-requires c κs = search needs
-
-enum-known-v : tie.Need-enum-known-v
-enum-known-v c = search needs
-
-enum-known-v-2 : tie.Need-enum-known-v-2
-enum-known-v-2 c = search needs
 
 sub-if1 : tie.Need-sub-if1
 sub-if1 c =
@@ -84,12 +73,5 @@ returns-3 c =
 pub read-length-spec : {M : Type 1} → statement M
 read-length-spec =
     tie.close
-    (tie.spec
-    part-end-requires
-    read-varint-requires
-    enum-known-v
-    enum-known-v-2
-    sub-if1
-    returns
-    returns-2
+    (tie.spec (λ c κs. search needs) (λ c κs. search needs) (λ c. search needs) (λ c. search needs) sub-if1 returns returns-2
     returns-3)

@@ -1,4 +1,4 @@
--- `read_tag` meets its contract. A part that is not at its end starts with a varint, and the tag of its value stands where it stands.
+-- `read_tag` meets its contract. A part that is not at its end starts with a varint, and the tag of its value is where it is.
 use Prim.Native.Nat.{ℕ, _+_, _-_, _/_, _%_, _^_, _<_, _≤_, min}
 use mathlib.Core.Path.{_≡_, refl, sym, ap, _∙_}
 use mathlib.Core.Bool.{Bool, true, false, cond, _&&_}
@@ -20,7 +20,7 @@ use Rattle.wire_read.proofs.Answers.{is-bad, is-got}
 use Rattle.wire_read.proofs.read_tag.Statement.{statement}
 use Rattle.wire_read.proofs.read_tag.Tie as tie
 
--- the tag of a value stands where its varint stands
+-- the tag of a value is where its varint is
 split-at : (at v used : ℕ) → tagAt (at + used) (split (got v 0)) ≡ tagAt at (split (got v used))
 unfolding split tagAt
 split-at at v used = by (ltb v (2 ^ 32) && (ltb 0 (v / 8) && ltb (v % 8) 6))
@@ -47,26 +47,9 @@ module _ (s : List ℕ) (at end stop : ℕ) (is-stop : stop ≡ min end (length 
     tag-of : (v after : ℕ) → r ≡ varints.Value v after → (t : Tag) → t ≡ tagAt after (split (got v 0)) → t ≡ tagAt at (tag (part s at end))
     tag-of v after e t is-t =
         let g = is-got at (varint (part s at end)) is-r e in
-        let p : tagAt (at + (after - at)) (split (got v 0)) ≡ tagAt after (split (got v 0)) = ap (λ (x : ℕ). tagAt x (split (got v 0))) (g .1) in
+        let p : tagAt (at + (after - at)) (split (got v 0)) ≡ tagAt after (split (got v 0)) =
+        ap (λ (x : ℕ). tagAt x (split (got v 0))) (g .1) in
         rw (by-varint, g .0) (is-t ∙ sym p ∙ split-at at v (after - at))
-
-part-end-requires : tie.Need-part-end-requires
-part-end-requires c κs = search needs
-
-returns : tie.Need-returns
-returns c = at-end _ _ _ _ (c .before .part-end .ensures) (c .if1 .taken)
-
-read-varint-requires : tie.Need-read-varint-requires
-read-varint-requires c κs = search needs
-
-enum-known-v : tie.Need-enum-known-v
-enum-known-v c = search needs
-
-enum-known-v-2 : tie.Need-enum-known-v-2
-enum-known-v-2 c = search needs
-
-split-tag-requires : tie.Need-split-tag-requires
-split-tag-requires c κs = search needs
 
 returns-2 : tie.Need-returns-2
 returns-2 c =
@@ -88,12 +71,6 @@ returns-3 c =
 pub read-tag-spec : {M : Type 1} → statement M
 read-tag-spec =
     tie.close
-    (tie.spec
-    part-end-requires
-    returns
-    read-varint-requires
-    enum-known-v
-    enum-known-v-2
-    split-tag-requires
-    returns-2
-    returns-3)
+    (tie.spec (λ c κs. search needs)
+    (λ c. at-end _ _ _ _ (c .before .part-end .ensures) (c .if1 .taken))
+    (λ c κs. search needs) (λ c. search needs) (λ c. search needs) (λ c κs. search needs) returns-2 returns-3)

@@ -1,9 +1,10 @@
--- `read_varint` meets its contract. The loop keeps the groups joined so far, below what the later bytes give (`Joining`); it ends because the part does.
+-- `read_varint` meets its contract. The loop keeps the groups joined so far, below what the later bytes give (`Joining`); it ends
+-- because the part does.
 use Prim.Native.Nat.{_-_}
 use mathlib.Core.Logic.{⊎-elim}
 use native.Mathlib.Omega.{arith}
 use borrow.Author.Needs.{needs}
-use Rattle.wire_read.proofs.Joining.{Joining, start, cut-off, too-big, found, again}
+use Rattle.wire_read.proofs.Joining.{Joining, joining-starts, cut-off, too-big, found, again}
 use Rattle.wire_read.proofs.read_varint.Statement.{statement}
 use Rattle.wire_read.proofs.read_varint.Tie as tie
 
@@ -13,33 +14,6 @@ Inv-loop s at end stop value₀ shift₀ i₀ value shift i = Joining s at end s
 abbrev μ-loop : tie.MeasureT-loop
 μ-loop s at end stop value₀ shift₀ i₀ value shift i = stop - i
 
-part-end-requires : tie.Need-part-end-requires Inv-loop μ-loop
-part-end-requires c κs = search needs
-
-loop-holds : tie.Need-loop-holds Inv-loop μ-loop
-loop-holds c = start _ _ _ _ (c .part-end .ensures)
-
-shared-slice-read-wide : tie.Need-shared-slice-read-wide Inv-loop μ-loop
-shared-slice-read-wide c = search needs
-
-wide-requires : tie.Need-wide-requires Inv-loop μ-loop
-wide-requires c κs = search needs
-
-add-i : tie.Need-add-i Inv-loop μ-loop
-add-i c = search needs
-
-cast-value : tie.Need-cast-value Inv-loop μ-loop
-cast-value c = search needs
-
-shl-value : tie.Need-shl-value Inv-loop μ-loop
-shl-value c = omega (arith, c .before .before .before .before .loop .inv .top)
-
-add-shift : tie.Need-add-shift Inv-loop μ-loop
-add-shift c = search needs
-
-loop-less : tie.Need-loop-less Inv-loop μ-loop
-loop-less c = search needs
-
 loop-again : tie.Need-loop-again Inv-loop μ-loop
 loop-again c =
     let at-wide = c .before .before in
@@ -47,9 +21,6 @@ loop-again c =
     let at-loop = at-if1 .before in
     again _ _ _ _ _ _ _ (at-loop .loop .inv) _ (at-wide .wide .ensures .0) (at-if1 .if1 .left)
     (λ e. ⊎-elim (λ w. w .1 .left) (λ w. absurd (w .left e)) (c .before .if2 .came)) (c .if4 .left)
-
-returns : tie.Need-returns Inv-loop μ-loop
-returns c = cut-off _ _ _ _ _ _ _ (c .before .loop .inv) (c .if1 .taken)
 
 returns-2 : tie.Need-returns-2 Inv-loop μ-loop
 returns-2 c =
@@ -70,19 +41,10 @@ returns-3 c =
 pub read-varint-spec : {M : Type 1} → statement M
 read-varint-spec =
     tie.close
-    (tie.spec
-    Inv-loop
-    μ-loop
-    part-end-requires
-    loop-holds
-    shared-slice-read-wide
-    wide-requires
-    add-i
-    cast-value
-    shl-value
-    add-shift
-    loop-less
-    loop-again
-    returns
-    returns-2
-    returns-3)
+    (tie.spec Inv-loop μ-loop (λ c κs. search needs)
+    (λ c. joining-starts _ _ _ _ (c .part-end .ensures))
+    (λ c. search needs) (λ c κs. search needs) (λ c. search needs) (λ c. search needs)
+    (λ c. let at-loop = c .before .before .before .before in omega (arith, at-loop .loop .inv .top))
+    (λ c. search needs) (λ c. search needs) loop-again
+    (λ c. cut-off _ _ _ _ _ _ _ (c .before .loop .inv) (c .if1 .taken))
+    returns-2 returns-3)

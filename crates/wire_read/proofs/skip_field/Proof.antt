@@ -15,21 +15,17 @@ with-depth : (s : List ℕ) (at end n w d depth : ℕ) {r : Skip} → d ≡ min 
     → r ≡ skipAt at (skipField n w depth (part s at end))
 with-depth s at end n w d depth e is-r = is-r ∙ ap (λ (k : ℕ). skipAt at (skipValue n w k (part s at end))) e
 
-skip-value-requires : tie.Need-skip-value-requires
-skip-value-requires c κs = search needs
-
 returns : tie.Need-returns
 returns c =
     let a = c .before .before .before .args in
-    with-depth (a .s .now) (a .at) (a .end) (a .number) (a .wire-type) (a .depth) (a .depth) (omega (arith, c .before .if1 .taken)) (c .skip-value .ensures)
-
-skip-value-requires-2 : tie.Need-skip-value-requires-2
-skip-value-requires-2 c κs = search needs
+    with-depth (a .s .now) (a .at) (a .end) (a .number) (a .wire-type) (a .depth) (a .depth) (omega (arith, c .before .if1 .taken))
+    (c .skip-value .ensures)
 
 returns-2 : tie.Need-returns-2
 returns-2 c =
     let a = c .before .before .before .args in
-    with-depth (a .s .now) (a .at) (a .end) (a .number) (a .wire-type) 32 (a .depth) (omega (arith, c .before .if1 .left)) (c .skip-value2 .ensures)
+    with-depth (a .s .now) (a .at) (a .end) (a .number) (a .wire-type) 32 (a .depth) (omega (arith, c .before .if1 .left))
+    (c .skip-value2 .ensures)
 
 pub skip-field-spec : {M : Type 1} → statement M
-skip-field-spec = tie.close (tie.spec skip-value-requires returns skip-value-requires-2 returns-2)
+skip-field-spec = tie.close (tie.spec (λ c κs. search needs) returns (λ c κs. search needs) returns-2)

@@ -1,4 +1,5 @@
--- `split_tag` meets its contract. The shift and the mask split the value as the division by 8 does, and each test is one of the definition's.
+-- `split_tag` meets its contract. The shift and the mask split the value as the division by 8 does, and each test is one of the
+-- definition's.
 use Prim.Native.Nat.{ℕ, _/_, _%_, _^_, _<_, _≤_}
 use mathlib.Core.Path.{_≡_}
 use mathlib.Core.Bool.{_&&_, false}
@@ -40,23 +41,10 @@ module _ (v after : ℕ) where
       let w′ : 6 ≤ v % 8 = rw low-bits at w in
       refusal (rw (lt-ltb v (2 ^ 32) (omega arith), lt-ltb 0 (v / 8) b, le-ltb (v % 8) 6 w′))
 
-cast-t8 : tie.Need-cast-t8
-cast-t8 c = search needs
-
-cast-t9 : tie.Need-cast-t9
-cast-t9 c = search needs
-
-returns : tie.Need-returns
-returns c = good _ _ (c .before .before .if1 .taken) (c .before .if2 .taken) (c .if3 .taken)
-
-returns-2 : tie.Need-returns-2
-returns-2 c = bad-type _ _ (c .before .before .if1 .taken) (c .before .if2 .taken) (c .if3 .left)
-
-returns-3 : tie.Need-returns-3
-returns-3 c = bad-number _ _ (c .before .if1 .taken) (c .if2 .left)
-
-returns-4 : tie.Need-returns-4
-returns-4 c = too-large _ _ (c .if1 .left)
-
 pub split-tag-spec : {M : Type 1} → statement M
-split-tag-spec = tie.close (tie.spec cast-t8 cast-t9 returns returns-2 returns-3 returns-4)
+split-tag-spec = tie.close
+    (tie.spec (λ c. search needs) (λ c. search needs)
+    (λ c. good _ _ (c .before .before .if1 .taken) (c .before .if2 .taken) (c .if3 .taken))
+    (λ c. bad-type _ _ (c .before .before .if1 .taken) (c .before .if2 .taken) (c .if3 .left))
+    (λ c. bad-number _ _ (c .before .if1 .taken) (c .if2 .left))
+    (λ c. too-large _ _ (c .if1 .left)))

@@ -1,4 +1,5 @@
--- `last_field` meets its contract: what is found so far and the fields from the place on give what all of them give, and the bytes left fall.
+-- `last_field` meets its contract: what is found so far and the fields from the place on give what all of them give, and the bytes left
+-- fall.
 use Prim.Native.Nat.{_-_}
 use mathlib.Core.Path.{_≡_, refl}
 use lib.ListN.{length}
@@ -20,13 +21,11 @@ loop-holds : tie.Need-loop-holds Inv-loop μ-loop
 unfolding lastField
 loop-holds c = refl
 
-loop-less : tie.Need-loop-less Inv-loop μ-loop
-loop-less c = less-left _ _ _ (c .before .before .field-at .ensures) (omega (arith, c .if1 .left))
-
 loop-again : tie.Need-loop-again Inv-loop μ-loop
 loop-again c =
     let turn = c .before .before .before .loop in
-    goes-on _ _ _ (turn .found) _ (c .before .before .field-at .ensures) (c .before .later .ensures) (turn .inv) (omega (arith, c .if1 .left))
+    goes-on _ _ _ (turn .found) _ (c .before .before .field-at .ensures) (c .before .later .ensures) (turn .inv)
+    (omega (arith, c .if1 .left))
 
 returns : tie.Need-returns Inv-loop μ-loop
 returns c =
@@ -36,12 +35,6 @@ returns c =
 pub last-field-spec : {M : Type 1} → statement M
 last-field-spec =
     tie.close
-    (tie.spec
-    Inv-loop
-    μ-loop
-    loop-holds
-    (λ c κs. search needs)
-    (λ c κs. search needs)
-    loop-less
-    loop-again
-    returns)
+    (tie.spec Inv-loop μ-loop loop-holds (λ c κs. search needs) (λ c κs. search needs)
+    (λ c. less-left _ _ _ (c .before .before .field-at .ensures) (omega (arith, c .if1 .left)))
+    loop-again returns)

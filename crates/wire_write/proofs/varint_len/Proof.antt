@@ -1,4 +1,5 @@
--- `varint_len` meets its contract. The loop counts the bytes passed; with those of what is left they are the bytes of `v`. It ends because what is left falls.
+-- `varint_len` meets its contract. The loop counts the bytes passed; with those of what is left they are the bytes of `v`. It ends
+-- because what is left falls.
 use Prim.Native.Nat.{ℕ, zero, suc, _+_, _*_, _/_, _^_, _<_, _≤_}
 use mathlib.Core.Path.{_≡_}
 use lib.ListN.{length}
@@ -26,7 +27,12 @@ again v rest n k h = step (k .room) (k .fits) (k .count) (k .left)
         → Counting v (rest / 128) (n + 1)
     step zero f c l = let z : ⊥ = omega arith in absurd z
     step (suc room) f c l =
-        record { room = room; fits = left-fits room rest f; count = omega arith; left = omega (arith, rw (shortest-more (suc room) rest h) at l) }
+        record {
+          room = room;
+          fits = left-fits room rest f;
+          count = omega arith;
+          left = omega (arith, rw (shortest-more (suc room) rest h) at l);
+        }
 
 counted : (v rest n : ℕ) → Counting v rest n → rest < 128 → n ≡ length (putVarint v)
 counted v rest n k h = omega (arith, rw (shortest-last (k .room) rest h) at (k .left))
@@ -37,21 +43,12 @@ Inv-loop v rest₀ n₀ rest n = Counting v rest n
 abbrev μ-loop : tie.MeasureT-loop
 μ-loop v rest₀ n₀ rest n = rest
 
-loop-holds : tie.Need-loop-holds Inv-loop μ-loop
-loop-holds c = start _ (omega arith)
-
-add-n : tie.Need-add-n Inv-loop μ-loop
-add-n c = omega (arith, c .before .loop .inv .count)
-
-loop-less : tie.Need-loop-less Inv-loop μ-loop
-loop-less c = omega arith
-
-loop-again : tie.Need-loop-again Inv-loop μ-loop
-loop-again c = again _ _ _ (c .before .loop .inv) (c .loop-test .taken)
-
-returns : tie.Need-returns Inv-loop μ-loop
-returns c = counted _ _ _ (c .before .loop .inv) (c .loop-test .left)
-
 pub varint-len-spec : {M : Type 1} → statement M
 varint-len-spec =
-    tie.close (tie.spec Inv-loop μ-loop loop-holds add-n loop-less loop-again returns)
+    tie.close
+    (tie.spec Inv-loop μ-loop
+    (λ c. start _ (omega arith))
+    (λ c. omega (arith, c .before .loop .inv .count))
+    (λ c. omega arith)
+    (λ c. again _ _ _ (c .before .loop .inv) (c .loop-test .taken))
+    (λ c. counted _ _ _ (c .before .loop .inv) (c .loop-test .left)))

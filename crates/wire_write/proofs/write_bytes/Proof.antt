@@ -1,6 +1,6 @@
 -- `write_bytes` meets its contract. Both grounds are looked at before the first of its three parts is stored; one stored after another
 -- is both stored at once (`Outputs`).
-use Prim.Native.Nat.{ℕ, _+_, _*_, _≤_}
+use Prim.Native.Nat.{ℕ, _+_, _≤_}
 use mathlib.Core.Path.{_≡_, refl, sym, ap, _∙_}
 use mathlib.Core.Bool.{Bool}
 use mathlib.Core.List.{List, _++_}
@@ -82,33 +82,6 @@ module _ (out : List ℕ) (at n : ℕ) (content : List ℕ) (k l : ℕ) (is-k : 
               ∙ sym (tag-stored n 2 out at field good room is-good is-fits error is-error none),
         )
 
-mul-tag : tie.Need-mul-tag
-mul-tag c = search needs
-
-add-tag : tie.Need-add-tag
-add-tag c = search needs
-
-varint-len-requires : tie.Need-varint-len-requires
-varint-len-requires c κs = search needs
-
-varint-len-requires-2 : tie.Need-varint-len-requires-2
-varint-len-requires-2 c κs = search needs
-
-add-head : tie.Need-add-head
-add-head c = omega (arith, short _ _ (c .before .varint-len .ensures), short _ _ (c .varint-len2 .ensures))
-
-has-room-for-both-requires : tie.Need-has-room-for-both-requires
-has-room-for-both-requires c κs = search needs
-
-good-tag-requires : tie.Need-good-tag-requires
-good-tag-requires c κs = search needs
-
-first-ground-requires : tie.Need-first-ground-requires
-first-ground-requires c κs = search needs
-
-same-length : tie.Need-same-length
-same-length c = search needs
-
 returns : tie.Need-returns
 returns c =
     let at-first-ground = c .before in
@@ -149,12 +122,6 @@ put-varint-requires-2 c κs =
     (at-room .has-room-for-both .ensures) _ (at-good-tag .good-tag .ensures) _ (at-first-ground .first-ground .ensures) (at-if1 .if1 .left)
     _ (at-put-varint .put-varint .ensures .0) _ (at-put-varint .put-varint .ensures .1)
 
-write-raw-requires : tie.Need-write-raw-requires
-write-raw-requires c κs = search needs
-
-same-length-2 : tie.Need-same-length-2
-same-length-2 c = search needs
-
 returns-2 : tie.Need-returns-2
 returns-2 c =
     let at-write-raw = c .before .before in
@@ -176,19 +143,7 @@ returns-2 c =
 pub write-bytes-spec : {M : Type 1} → statement M
 write-bytes-spec =
     tie.close
-    (tie.spec
-    mul-tag
-    add-tag
-    varint-len-requires
-    varint-len-requires-2
-    add-head
-    has-room-for-both-requires
-    good-tag-requires
-    first-ground-requires
-    same-length
-    returns
-    put-varint-requires
-    put-varint-requires-2
-    write-raw-requires
-    same-length-2
-    returns-2)
+    (tie.spec (λ c. search needs) (λ c. search needs) (λ c κs. search needs) (λ c κs. search needs)
+    (λ c. omega (arith, short _ _ (c .before .varint-len .ensures), short _ _ (c .varint-len2 .ensures)))
+    (λ c κs. search needs) (λ c κs. search needs) (λ c κs. search needs) (λ c. search needs) returns put-varint-requires
+    put-varint-requires-2 (λ c κs. search needs) (λ c. search needs) returns-2)

@@ -2,14 +2,15 @@
 use Prim.Native.Nat.{ℕ, _+_, _-_, _≤_}
 use mathlib.Core.Path.{_≡_, sym, ap, _∙_}
 use mathlib.Core.Bool.{Bool, true, false}
-use mathlib.Core.List.{List, [], _++_, append-assoc, append-nil}
-use lib.ListN.{length, take, drop, length-drop, drop-of-length-le}
+use mathlib.Core.List.{List, _++_}
+use lib.ListN.{length, take, drop, length-drop}
 use lib.Dec.{leb}
-use lib.Seq.{take-all, drop-drop, take-length}
 use native.Mathlib.Omega.{arith}
 use borrow.Author.Tests.{le-leb, leb-true, leb-false}
 use borrow.Author.Needs.{needs}
-use Rattle.wire_write.specs.Writing.{outputShort, stored, writtenAt}
+use Rattle.laws.proofs.Lists.{tail-all, put-back}
+use Rattle.refusals.specs.Numbers.{outputShort}
+use Rattle.wire_write.specs.Writing.{stored, writtenAt}
 use Rattle.wire_write.specs.declared.Written.the-variants.{Next, Refused}
 use Rattle.wire_write.proofs.Outputs.{written, full}
 use Rattle.wire_write.proofs.write_raw.Statement.{statement}
@@ -19,30 +20,20 @@ module _ (out x : List ℕ) (at : ℕ) (b : Bool) (is-b : b ≡ leb (at + length
   fits : b ≡ true → at + length x ≤ length out
   fits t = leb-true (at + length x) (length out) (sym is-b ∙ t)
 
-  -- the part from `at` on is all that is behind it
-  behind : take (length out - at) (drop at out) ≡ drop at out
-  behind = take-all (length out - at) (drop at out) (omega (arith, length-drop at out))
-
   part-fits : b ≡ true → length x ≤ length (take (length out - at) (drop at out))
-  part-fits t = rw behind (omega (arith, fits t, length-drop at out))
+  part-fits t = rw (tail-all at out) (omega (arith, fits t, length-drop at out))
 
   copied : b ≡ true → (n : ℕ) → n ≡ length x
       → (tail : List ℕ) → tail ≡ take (length x) x ++ drop (length x) (take (length out - at) (drop at out))
       → (Next (at + n) ≡ writtenAt out at x) × (take at out ++ (tail ++ drop (length out - at) (drop at out)) ≡ stored out at x)
   unfolding stored
-  copied t n e tail same =
-      let h : at + length x ≤ length out = fits t in
-      let none : drop (length out - at) (drop at out) ≡ [] = drop-of-length-le (drop at out) {i = length out - at} (omega (arith, length-drop at out)) in (
-        written out at x h (at + n) (ap (λ (k : ℕ). at + k) e),
-        rw (same, behind, take-length x, drop-drop (length x) at out, le-leb (at + length x) (length out) h, none)
-            (simp (append-nil, append-assoc)),
-      )
+  copied t n e tail same = (
+    written out at x (fits t) (at + n) (ap (λ (k : ℕ). at + k) e),
+    rw (le-leb (at + length x) (length out) (fits t)) (put-back out x tail at same),
+  )
 
   refuses : b ≡ false → (Refused outputShort ≡ writtenAt out at x) × (out ≡ stored out at x)
   refuses t = full out at x (omega (arith, leb-false (at + length x) (length out) (sym is-b ∙ t)))
-
-has-room-requires : tie.Need-has-room-requires
-has-room-requires c κs = search needs
 
 sub-copy : tie.Need-sub-copy
 sub-copy c =
@@ -57,9 +48,6 @@ part-copy-start c =
     let entry = at-has-room .before .before .before .before in
     let room = fits (entry .args .out .now) (entry .args .content .now) _ _ (at-has-room .has-room .ensures) (c .if1 .taken) in
     omega arith
-
-part-copy-end : tie.Need-part-copy-end
-part-copy-end c = search needs
 
 copy-requires : tie.Need-copy-requires
 copy-requires c κs =
@@ -77,9 +65,6 @@ add-t13 c =
     let room = fits (entry .args .out .now) (entry .args .content .now) _ _ (at-has-room .has-room .ensures) (at-if1 .if1 .taken) in
     omega (arith, at-copy .copy .ensures .0)
 
-same-length : tie.Need-same-length
-same-length c = search needs
-
 returns : tie.Need-returns
 returns c =
     let at-copy = c .before .before in
@@ -89,9 +74,6 @@ returns c =
     copied (entry .args .out .now) (entry .args .content .now) _ _ (at-has-room .has-room .ensures) (at-if1 .if1 .taken) _
     (at-copy .copy .ensures .0) _ (at-copy .copy .ensures .1)
 
-same-length-2 : tie.Need-same-length-2
-same-length-2 c = search needs
-
 returns-2 : tie.Need-returns-2
 returns-2 c =
     let entry = c .before .before .before .before .before in
@@ -100,14 +82,5 @@ returns-2 c =
 pub write-raw-spec : {M : Type 1} → statement M
 write-raw-spec =
     tie.close
-    (tie.spec
-    has-room-requires
-    sub-copy
-    part-copy-start
-    part-copy-end
-    copy-requires
-    add-t13
-    same-length
-    returns
-    same-length-2
-    returns-2)
+    (tie.spec (λ c κs. search needs) sub-copy part-copy-start (λ c. search needs) copy-requires add-t13 (λ c. search needs) returns
+    (λ c. search needs) returns-2)

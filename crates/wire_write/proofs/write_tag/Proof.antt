@@ -1,6 +1,6 @@
 -- `write_tag` meets its contract. Both grounds are looked at before a byte is stored (`Outputs`).
-use Prim.Native.Nat.{ℕ, _+_, _*_, _≤_}
-use mathlib.Core.Path.{_≡_, refl, sym, ap, _∙_}
+use Prim.Native.Nat.{ℕ, _+_, _≤_}
+use mathlib.Core.Path.{_≡_, sym, ap, _∙_}
 use mathlib.Core.Bool.{Bool}
 use mathlib.Core.List.{List}
 use lib.ListN.{length}
@@ -33,27 +33,6 @@ module _ (n w : ℕ) (out : List ℕ) (at size : ℕ) (is-size : size ≡ length
       is-out′ ∙ sym (tag-stored n w out at (putTag n w) good room is-good is-fits error is-error none),
     )
 
-mul-tag : tie.Need-mul-tag
-mul-tag c = search needs
-
-add-tag : tie.Need-add-tag
-add-tag c = search needs
-
-varint-len-requires : tie.Need-varint-len-requires
-varint-len-requires c κs = search needs
-
-has-room-requires : tie.Need-has-room-requires
-has-room-requires c κs = search needs
-
-good-tag-requires : tie.Need-good-tag-requires
-good-tag-requires c κs = search needs
-
-first-ground-requires : tie.Need-first-ground-requires
-first-ground-requires c κs = search needs
-
-same-length : tie.Need-same-length
-same-length c = search needs
-
 returns : tie.Need-returns
 returns c =
     let at-first-ground = c .before in
@@ -77,9 +56,6 @@ put-varint-requires c κs =
     (at-has-room .has-room .ensures) _
     (at-good-tag .good-tag .ensures) _ (at-first-ground .first-ground .ensures) (at-if1 .if1 .left)
 
-same-length-2 : tie.Need-same-length-2
-same-length-2 c = search needs
-
 returns-2 : tie.Need-returns-2
 returns-2 c =
     let at-put-varint = c .before .before in
@@ -98,15 +74,5 @@ returns-2 c =
 pub write-tag-spec : {M : Type 1} → statement M
 write-tag-spec =
     tie.close
-    (tie.spec
-    mul-tag
-    add-tag
-    varint-len-requires
-    has-room-requires
-    good-tag-requires
-    first-ground-requires
-    same-length
-    returns
-    put-varint-requires
-    same-length-2
-    returns-2)
+    (tie.spec (λ c. search needs) (λ c. search needs) (λ c κs. search needs) (λ c κs. search needs) (λ c κs. search needs)
+    (λ c κs. search needs) (λ c. search needs) returns put-varint-requires (λ c. search needs) returns-2)

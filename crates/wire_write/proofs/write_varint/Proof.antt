@@ -8,7 +8,8 @@ use lib.Dec.{leb}
 use native.Mathlib.Omega.{arith}
 use borrow.Author.Needs.{needs}
 use borrow.Author.Tests.{leb-true, leb-false}
-use Rattle.wire_write.specs.Writing.{putVarint, outputShort, stored, writtenAt}
+use Rattle.refusals.specs.Numbers.{outputShort}
+use Rattle.wire_write.specs.Writing.{putVarint, stored, writtenAt}
 use Rattle.wire_write.specs.declared.Written.the-variants.{Next, Refused}
 use Rattle.wire_write.proofs.Outputs.{written, full}
 use Rattle.wire_write.proofs.write_varint.Statement.{statement}
@@ -25,21 +26,12 @@ module _ (out : List ℕ) (at v n : ℕ) (is-n : n ≡ length (putVarint v)) (b 
   refuses : b ≡ false → (Refused outputShort ≡ writtenAt out at (putVarint v)) × (out ≡ stored out at (putVarint v))
   refuses t = full out at (putVarint v) (omega (arith, leb-false (at + n) (length out) (sym is-b ∙ t)))
 
-varint-len-requires : tie.Need-varint-len-requires
-varint-len-requires c κs = search needs
-
-has-room-requires : tie.Need-has-room-requires
-has-room-requires c κs = search needs
-
 put-varint-requires : tie.Need-put-varint-requires
 put-varint-requires c κs =
     let at-has-room = c .before .before in
     let at-varint-len = at-has-room .before in
     let entry = at-varint-len .before .before .before in
     fits (entry .args .out .now) _ _ _ (at-varint-len .varint-len .ensures) _ (at-has-room .has-room .ensures) (c .before .if1 .taken)
-
-same-length : tie.Need-same-length
-same-length c = search needs
 
 returns : tie.Need-returns
 returns c =
@@ -51,9 +43,6 @@ returns c =
     stores (entry .args .out .now) _ _ _ (at-varint-len .varint-len .ensures) _ (at-has-room .has-room .ensures) (at-if1 .if1 .taken) _
     (at-put-varint .put-varint .ensures .0) _ (at-put-varint .put-varint .ensures .1)
 
-same-length-2 : tie.Need-same-length-2
-same-length-2 c = search needs
-
 returns-2 : tie.Need-returns-2
 returns-2 c =
     let at-varint-len = c .before .before in
@@ -63,11 +52,5 @@ returns-2 c =
 pub write-varint-spec : {M : Type 1} → statement M
 write-varint-spec =
     tie.close
-    (tie.spec
-    varint-len-requires
-    has-room-requires
-    put-varint-requires
-    same-length
-    returns
-    same-length-2
+    (tie.spec (λ c κs. search needs) (λ c κs. search needs) put-varint-requires (λ c. search needs) returns (λ c. search needs)
     returns-2)

@@ -7,9 +7,9 @@ use mathlib.Core.List.{List}
 use lib.ListN.{length}
 use Rattle.writer.specs.Writing.{Writing}
 use Rattle.writer_checks.specs.Grounds.{contentError}
-use Rattle.outgoing.specs.Items.{schemaNumber}
+use Rattle.schema.specs.Kinds.{schemaNumber}
 use Rattle.writer.specs.Items.{messageWithin, Lent, RowsIn}
-use Rattle.outgoing.specs.declared.Content.{Content}
+use Rattle.records.specs.declared.Content.{Content}
 use Rattle.writer_checks.proofs.Accepted.{accepted}
 use Rattle.writer.proofs.Messages.{message-within}
 use Rattle.writer.proofs.Refusals.{refused-content, accepted-content}
@@ -26,12 +26,6 @@ ready c source numbers size e is-e h =
       record { lent = ok .lent; within = ok .rows-within },
       message-within (length source) (c .values) (c .kind) ∙ ok .spans-within,
     )
-
-content-of-requires : tie.Need-content-of-requires
-content-of-requires c κs = search needs
-
-content-error-requires : tie.Need-content-error-requires
-content-error-requires c κs = search needs
 
 returns : tie.Need-returns
 returns c =
@@ -52,9 +46,6 @@ write-content-requires c κs =
     ready content (args .source .now) (args .rows .now) (length (args .body .now)) _ (at-content-error .content-error .ensures)
     (c .before .if1 .left)
 
-same-length : tie.Need-same-length
-same-length c = search needs
-
 returns-2 : tie.Need-returns-2
 returns-2 c =
     let at-write-content = c .before .before in
@@ -70,11 +61,4 @@ returns-2 c =
 
 pub write-spec : {M : Type 1} → statement M
 write-spec =
-    tie.close
-    (tie.spec
-    content-of-requires
-    content-error-requires
-    returns
-    write-content-requires
-    same-length
-    returns-2)
+    tie.close (tie.spec (λ c κs. search needs) (λ c κs. search needs) returns write-content-requires (λ c. search needs) returns-2)

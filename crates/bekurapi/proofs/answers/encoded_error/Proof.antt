@@ -5,12 +5,6 @@ use Rattle.writer.specs.Writing.{errorOf}
 use Rattle.bekurapi.proofs.answers.encoded_error.Statement.{statement}
 use Rattle.bekurapi.proofs.answers.encoded_error.Tie as tie
 
-enum-told : tie.Need-enum-told
-enum-told c = search needs
-
-enum-known-encoded : tie.Need-enum-known-encoded
-enum-known-encoded c = search needs
-
 returns : tie.Need-returns
 unfolding errorOf
 returns c = rw (c .enum-told .given .1) refl
@@ -20,4 +14,4 @@ unfolding errorOf
 returns-2 c = rw (c .before .encoded .given .1) refl
 
 pub encoded-error-spec : {M : Type 1} → statement M
-encoded-error-spec = tie.close (tie.spec enum-told enum-known-encoded returns returns-2)
+encoded-error-spec = tie.close (tie.spec (λ c. search needs) (λ c. search needs) returns returns-2)

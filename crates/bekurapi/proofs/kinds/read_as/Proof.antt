@@ -7,18 +7,6 @@ use Rattle.bekurapi.specs.Numbers.{numbersOf}
 use Rattle.bekurapi.proofs.kinds.read_as.Statement.{statement}
 use Rattle.bekurapi.proofs.kinds.read_as.Tie as tie
 
-read-spans-requires : tie.Need-read-spans-requires
-read-spans-requires c κs = search needs
-
-numbers-of-requires : tie.Need-numbers-of-requires
-numbers-of-requires c κs = search needs
-
-answer-error-requires : tie.Need-answer-error-requires
-answer-error-requires c κs = search needs
-
-same-length : tie.Need-same-length
-same-length c = search needs
-
 returns : tie.Need-returns
 returns c =
     let at-numbers = c .before in
@@ -33,4 +21,4 @@ returns c =
 pub read-as-spec : {M : Type 1} → statement M
 read-as-spec =
     tie.close
-    (tie.spec read-spans-requires numbers-of-requires answer-error-requires same-length returns)
+    (tie.spec (λ c κs. search needs) (λ c κs. search needs) (λ c κs. search needs) (λ c. search needs) returns)

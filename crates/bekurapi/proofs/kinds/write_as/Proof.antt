@@ -1,25 +1,10 @@
 -- What the writer gives of the record that the numbers are.
 use mathlib.Core.Path.{ap, _∙_}
 use borrow.Author.Needs.{needs}
-use Rattle.message.specs.declared.Record.{Record}
+use Rattle.records.specs.declared.Record.{Record}
 use Rattle.writer.specs.Writing.{Writing, written, errorOf, countOf}
 use Rattle.bekurapi.proofs.kinds.write_as.Statement.{statement}
 use Rattle.bekurapi.proofs.kinds.write_as.Tie as tie
-
-record-from-requires : tie.Need-record-from-requires
-record-from-requires c κs = search needs
-
-write-requires : tie.Need-write-requires
-write-requires c κs = search needs
-
-encoded-size-requires : tie.Need-encoded-size-requires
-encoded-size-requires c κs = search needs
-
-encoded-error-requires : tie.Need-encoded-error-requires
-encoded-error-requires c κs = search needs
-
-same-length : tie.Need-same-length
-same-length c = search needs
 
 returns : tie.Need-returns
 returns c =
@@ -40,9 +25,9 @@ pub write-as-spec : {M : Type 1} → statement M
 write-as-spec =
     tie.close
     (tie.spec
-    record-from-requires
-    write-requires
-    encoded-size-requires
-    encoded-error-requires
-    same-length
+    (λ c κs. search needs)
+    (λ c κs. search needs)
+    (λ c κs. search needs)
+    (λ c κs. search needs)
+    (λ c. search needs)
     returns)

@@ -20,27 +20,6 @@ abbrev μ-loop : tie.MeasureT-loop
 loop-holds : tie.Need-loop-holds Inv-loop μ-loop
 loop-holds c = (omega arith, search needs, refl)
 
-add-fields : tie.Need-add-fields Inv-loop μ-loop
-add-fields c = search needs
-
-mul-fields : tie.Need-mul-fields Inv-loop μ-loop
-mul-fields c = search needs
-
-array-read-fields : tie.Need-array-read-fields Inv-loop μ-loop
-array-read-fields c = search needs
-
-mul-fields-2 : tie.Need-mul-fields-2 Inv-loop μ-loop
-mul-fields-2 c = search needs
-
-array-write-fields : tie.Need-array-write-fields Inv-loop μ-loop
-array-write-fields c = search needs
-
-add-i : tie.Need-add-i Inv-loop μ-loop
-add-i c = search needs
-
-loop-less : tie.Need-loop-less Inv-loop μ-loop
-loop-less c = search needs
-
 loop-again : tie.Need-loop-again Inv-loop μ-loop
 loop-again c =
     let at-loop = c .before in
@@ -69,12 +48,12 @@ fields-of-spec =
     Inv-loop
     μ-loop
     loop-holds
-    add-fields
-    mul-fields
-    array-read-fields
-    mul-fields-2
-    array-write-fields
-    add-i
-    loop-less
+    (λ c. search needs)
+    (λ c. search needs)
+    (λ c. search needs)
+    (λ c. search needs)
+    (λ c. search needs)
+    (λ c. search needs)
+    (λ c. search needs)
     loop-again
     returns)

@@ -4,8 +4,6 @@ use Rattle.decoder.proofs.Walk.{step-cut}
 use Rattle.decoder.proofs.walking.step_in.Statement.{statement}
 use Rattle.decoder.proofs.walking.step_in.Tie as tie
 
-returns : tie.Need-returns
-returns c = let args = c .before .before .before .args in step-cut (args .frame .now) (args .end) (args .at) (c .field-at .ensures)
-
 pub step-in-spec : {M : Type 1} → statement M
-step-in-spec = tie.close (tie.spec (λ c. search needs) (λ c. search needs) (λ c. search needs) (λ c κs. search needs) returns)
+step-in-spec = tie.close (tie.spec (λ c. search needs) (λ c. search needs) (λ c. search needs) (λ c κs. search needs)
+    (λ c. let args = c .before .before .before .args in step-cut (args .frame .now) (args .end) (args .at) (c .field-at .ensures)))

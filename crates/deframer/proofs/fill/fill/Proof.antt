@@ -8,18 +8,6 @@ use Rattle.deframer.proofs.Lists.{fill-all, fill-some}
 use Rattle.deframer.proofs.fill.fill.Statement.{statement}
 use Rattle.deframer.proofs.fill.fill.Tie as tie
 
-sub-room : tie.Need-sub-room
-sub-room c = search needs
-
-put-requires : tie.Need-put-requires
-put-requires c κs = search needs
-
-add-result : tie.Need-add-result
-add-result c = search needs
-
-same-length : tie.Need-same-length
-same-length c = search needs
-
 returns : tie.Need-returns
 returns c =
     let at-put = c .before .before in
@@ -37,9 +25,6 @@ put-requires-2 c κs =
     let start = c .before .before .before .before .before in
     omega (arith, length-take-le (start .args .goal - start .args .held) (start .args .piece .now) (omega arith))
 
-same-length-2 : tie.Need-same-length-2
-same-length-2 c = search needs
-
 returns-2 : tie.Need-returns-2
 returns-2 c =
     let at-put2 = c .before .before in
@@ -50,13 +35,5 @@ returns-2 c =
 pub fill-spec : {M : Type 1} → statement M
 fill-spec =
     tie.close
-    (tie.spec
-    sub-room
-    put-requires
-    add-result
-    same-length
-    returns
-    slice-aggregate-put
-    put-requires-2
-    same-length-2
-    returns-2)
+    (tie.spec (λ c. search needs) (λ c κs. search needs) (λ c. search needs) (λ c. search needs) returns slice-aggregate-put
+    put-requires-2 (λ c. search needs) returns-2)

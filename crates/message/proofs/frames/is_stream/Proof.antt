@@ -3,11 +3,5 @@ use borrow.Author.Tests.{eq-eqb, ne-eqb}
 use Rattle.message.proofs.frames.is_stream.Statement.{statement}
 use Rattle.message.proofs.frames.is_stream.Tie as tie
 
-returns : tie.Need-returns
-returns c = rw (ne-eqb _ _ (c .if1 .taken))
-
-returns-2 : tie.Need-returns-2
-returns-2 c = rw (eq-eqb _ _ (c .if1 .left))
-
 pub is-stream-spec : {M : Type 1} → statement M
-is-stream-spec = tie.close (tie.spec returns returns-2)
+is-stream-spec = tie.close (tie.spec (λ c. rw (ne-eqb _ _ (c .if1 .taken))) (λ c. rw (eq-eqb _ _ (c .if1 .left))))

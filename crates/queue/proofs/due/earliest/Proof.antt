@@ -6,7 +6,7 @@ use mathlib.Core.Logic.{⊎-elim}
 use native.Mathlib.Omega.{arith}
 use borrow.Author.Needs.{needs}
 use lib.ListN.{length}
-use Rattle.queue.proofs.Tests.{slots}
+use Rattle.laws.proofs.Lists.{length-mapped}
 use Rattle.queue.proofs.Leader.{Leads, leads-one, leads-changed, leads-still, leads-earliest}
 use Rattle.queue.proofs.Valid.{valid, arrival-at}
 use Rattle.queue.proofs.due.earliest.Statement.{statement}
@@ -23,20 +23,8 @@ loop-holds c = (
   leads-one (c .args .t1 .jobs),
   omega arith,
   valid (c .args .t1) (c .pre .0) .few,
-  slots (c .args .t1 .jobs) _ (c .good .0 .1 .1 .0 .1 .0 .1),
+  length-mapped (c .args .t1 .jobs) _ (c .good .0 .1 .1 .0 .1 .0 .1),
 )
-
-mul-j : tie.Need-mul-j Inv-loop μ-loop
-mul-j c = search needs
-
-element-copy-out-j : tie.Need-element-copy-out-j Inv-loop μ-loop
-element-copy-out-j c = search needs
-
-mul-b : tie.Need-mul-b Inv-loop μ-loop
-mul-b c = search needs
-
-element-copy-out-b : tie.Need-element-copy-out-b Inv-loop μ-loop
-element-copy-out-b c = search needs
 
 due-before-requires : tie.Need-due-before-requires Inv-loop μ-loop
 due-before-requires c κs =
@@ -44,12 +32,6 @@ due-before-requires c κs =
     let l = c .before .before .before .loop in
     let valid = c .before .before .before .before .pre .0 in
     (arrival-at q (l .i) valid (omega arith) (omega arith), arrival-at q (l .best) valid (omega arith) (omega arith))
-
-add-i : tie.Need-add-i Inv-loop μ-loop
-add-i c = search needs
-
-loop-less : tie.Need-loop-less Inv-loop μ-loop
-loop-less c = search needs
 
 loop-again : tie.Need-loop-again Inv-loop μ-loop
 loop-again c =
@@ -75,16 +57,5 @@ returns c =
 pub earliest-spec : {M : Type 1} → statement M
 earliest-spec =
     tie.close
-    (tie.spec
-    Inv-loop
-    μ-loop
-    loop-holds
-    mul-j
-    element-copy-out-j
-    mul-b
-    element-copy-out-b
-    due-before-requires
-    add-i
-    loop-less
-    loop-again
-    returns)
+    (tie.spec Inv-loop μ-loop loop-holds (λ c. search needs) (λ c. search needs) (λ c. search needs) (λ c. search needs)
+    due-before-requires (λ c. search needs) (λ c. search needs) loop-again returns)

@@ -4,20 +4,5 @@ use borrow.Author.Needs.{needs}
 use Rattle.queue.proofs.due.sooner.Statement.{statement}
 use Rattle.queue.proofs.due.sooner.Tie as tie
 
-cast-x : tie.Need-cast-x
-cast-x c = search needs
-
-add-x : tie.Need-add-x
-add-x c = search needs
-
-cast-y : tie.Need-cast-y
-cast-y c = search needs
-
-add-y : tie.Need-add-y
-add-y c = search needs
-
-returns : tie.Need-returns
-returns c = search needs
-
 pub sooner-spec : {M : Type 1} → statement M
-sooner-spec = tie.close (tie.spec cast-x add-x cast-y add-y returns)
+sooner-spec = tie.close (tie.spec (λ c. search needs) (λ c. search needs) (λ c. search needs) (λ c. search needs) (λ c. search needs))

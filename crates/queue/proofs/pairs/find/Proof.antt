@@ -5,8 +5,8 @@ use mathlib.Core.Path.{_≡_, refl, sym, _∙_}
 use native.Mathlib.Omega.{arith}
 use borrow.Author.Needs.{needs}
 use lib.ListN.{length, drop}
+use Rattle.laws.proofs.Lists.{length-mapped}
 use Rattle.queue.specs.Waiting.{waiting, hasPair, place}
-use Rattle.queue.proofs.Tests.{slots}
 use Rattle.queue.proofs.Search.{search-past, search-stops, search-ends}
 use Rattle.queue.proofs.pairs.find.Statement.{statement}
 use Rattle.queue.proofs.pairs.find.Tie as tie
@@ -21,16 +21,7 @@ abbrev μ-loop : tie.MeasureT-loop
 μ-loop from connection request q n i₀ i = n - i
 
 loop-holds : tie.Need-loop-holds Inv-loop μ-loop
-loop-holds c = (refl, c .pre .0, slots (c .args .t1 .jobs) _ (c .good .0 .1 .1 .0 .1 .0 .1))
-
-mul-j : tie.Need-mul-j Inv-loop μ-loop
-mul-j c = search needs
-
-element-copy-out-j : tie.Need-element-copy-out-j Inv-loop μ-loop
-element-copy-out-j c = search needs
-
-has-pair-requires : tie.Need-has-pair-requires Inv-loop μ-loop
-has-pair-requires c κs = search needs
+loop-holds c = (refl, c .pre .0, length-mapped (c .args .t1 .jobs) _ (c .good .0 .1 .1 .0 .1 .0 .1))
 
 returns : tie.Need-returns Inv-loop μ-loop
 returns c =
@@ -40,12 +31,6 @@ returns c =
     (l .inv .0
     ∙ search-stops (hasPair (a .connection) (a .request)) (a .t1 .jobs) (a .t1 .count) (l .i) (omega arith) (omega arith)
     (sym (c .before .has-pair .ensures) ∙ c .if1 .taken))
-
-add-i : tie.Need-add-i Inv-loop μ-loop
-add-i c = search needs
-
-loop-less : tie.Need-loop-less Inv-loop μ-loop
-loop-less c = search needs
 
 loop-again : tie.Need-loop-again Inv-loop μ-loop
 loop-again c =
@@ -69,15 +54,5 @@ returns-2 c =
 pub find-spec : {M : Type 1} → statement M
 find-spec =
     tie.close
-    (tie.spec
-    Inv-loop
-    μ-loop
-    loop-holds
-    mul-j
-    element-copy-out-j
-    has-pair-requires
-    returns
-    add-i
-    loop-less
-    loop-again
-    returns-2)
+    (tie.spec Inv-loop μ-loop loop-holds (λ c. search needs) (λ c. search needs) (λ c κs. search needs) returns (λ c. search needs)
+    (λ c. search needs) loop-again returns-2)

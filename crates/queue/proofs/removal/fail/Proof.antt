@@ -4,11 +4,8 @@ use borrow.Author.Needs.{needs}
 use Rattle.queue.proofs.removal.fail.Statement.{statement}
 use Rattle.queue.proofs.removal.fail.Tie as tie
 
-zero-job-requires : tie.Need-zero-job-requires
-zero-job-requires c κs = search needs
-
 returns : tie.Need-returns
 returns c = rw (c .zero-job .ensures)
 
 pub fail-spec : {M : Type 1} → statement M
-fail-spec = tie.close (tie.spec zero-job-requires returns)
+fail-spec = tie.close (tie.spec (λ c κs. search needs) returns)

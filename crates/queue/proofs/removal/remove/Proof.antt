@@ -6,19 +6,10 @@ use Rattle.queue.specs.Waiting.{zeroJob}
 use Rattle.queue.proofs.removal.remove.Statement.{statement}
 use Rattle.queue.proofs.removal.remove.Tie as tie
 
-mul-job : tie.Need-mul-job
-mul-job c = search needs
-
-element-copy-out-job : tie.Need-element-copy-out-job
-element-copy-out-job c = search needs
-
-close-up-requires : tie.Need-close-up-requires
-close-up-requires c κs = search needs
-
 returns : tie.Need-returns
 returns c =
     let a = c .before .before .args in
     rw (c .close-up .ensures, getD-take (a .t1 .count) (a .t1 .jobs) (a .at) zeroJob (c .before .before .pre .0))
 
 pub remove-spec : {M : Type 1} → statement M
-remove-spec = tie.close (tie.spec mul-job element-copy-out-job close-up-requires returns)
+remove-spec = tie.close (tie.spec (λ c. search needs) (λ c. search needs) (λ c κs. search needs) returns)

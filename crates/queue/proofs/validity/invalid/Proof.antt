@@ -6,8 +6,8 @@ use native.Mathlib.Omega.{arith}
 use borrow.Author.Needs.{needs}
 use borrow.Author.Tests.{lt-ltb, le-ltb}
 use lib.ListN.{length, drop}
+use Rattle.laws.proofs.Lists.{length-mapped}
 use Rattle.queue.specs.Waiting.{latestArrival, waiting, any, pairTwice, late, jobAt, samePair}
-use Rattle.queue.proofs.Tests.{slots}
 use Rattle.queue.proofs.Search.{none-left, search-found, search-fails}
 use Rattle.queue.proofs.Valid.{not-invalid, over-invalid, twice-invalid, late-invalid, late-here, late-past, twice-here, twice-past}
 use Rattle.queue.proofs.validity.invalid.Statement.{statement}
@@ -28,13 +28,7 @@ returns c = sym (over-invalid (c .before .args .t1) (c .if1 .taken))
 
 loop-holds : tie.Need-loop-holds Inv-loop μ-loop
 loop-holds c =
-    (refl, refl, omega arith, slots (c .before .args .t1 .jobs) _ (c .before .good .0 .1 .1 .0 .1 .0 .1))
-
-mul-j : tie.Need-mul-j Inv-loop μ-loop
-mul-j c = search needs
-
-element-copy-out-j : tie.Need-element-copy-out-j Inv-loop μ-loop
-element-copy-out-j c = search needs
+    (refl, refl, omega arith, length-mapped (c .before .args .t1 .jobs) _ (c .before .good .0 .1 .1 .0 .1 .0 .1))
 
 returns-2 : tie.Need-returns-2 Inv-loop μ-loop
 returns-2 c =
@@ -45,9 +39,6 @@ returns-2 c =
     (l .inv .0
     ∙ late-here (q .jobs) (q .count) (l .i) (omega arith) (omega arith)
     (lt-ltb latestArrival (jobAt (q .jobs) (l .i) .arrival) (c .if2 .taken))))
-
-add-find : tie.Need-add-find Inv-loop μ-loop
-add-find c = search needs
 
 find-requires : tie.Need-find-requires Inv-loop μ-loop
 find-requires c κs = (omega arith, omega arith)
@@ -63,12 +54,6 @@ returns-3 c =
     ∙ twice-here (q .jobs) (q .count) (l .i) (omega arith) (omega arith)
     (search-found (samePair j) (q .jobs) (q .count) (l .i + 1) (omega arith) (c .before .find .result)
     (c .before .find .ensures) (c .if3 .taken))))
-
-add-i : tie.Need-add-i Inv-loop μ-loop
-add-i c = search needs
-
-loop-less : tie.Need-loop-less Inv-loop μ-loop
-loop-less c = search needs
 
 loop-again : tie.Need-loop-again Inv-loop μ-loop
 loop-again c =
@@ -98,18 +83,5 @@ returns-4 c =
 pub invalid-spec : {M : Type 1} → statement M
 invalid-spec =
     tie.close
-    (tie.spec
-    Inv-loop
-    μ-loop
-    returns
-    loop-holds
-    mul-j
-    element-copy-out-j
-    returns-2
-    add-find
-    find-requires
-    returns-3
-    add-i
-    loop-less
-    loop-again
-    returns-4)
+    (tie.spec Inv-loop μ-loop returns loop-holds (λ c. search needs) (λ c. search needs) returns-2 (λ c. search needs) find-requires
+    returns-3 (λ c. search needs) (λ c. search needs) loop-again returns-4)

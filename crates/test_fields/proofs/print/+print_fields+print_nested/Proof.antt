@@ -13,8 +13,8 @@ use Rattle.test_fields.proofs.print.+print_fields+print_nested.Lts-prin
 use Rattle.test_fields.proofs.print.fields_inside.Reads as fields-inside
 use Rattle.test_fields.proofs.print.print_value.Reads as print-value
 use Rattle.test_fields.proofs.print.step_within.Reads as step-within
-use Rattle.test_fields.proofs.text.print_close.Reads as print-close
-use Rattle.test_fields.proofs.text.print_open.Reads as print-open
+use Rattle.test_fields.proofs.lines.print_close.Reads as print-close
+use Rattle.test_fields.proofs.lines.print_open.Reads as print-open
 use Rattle.test_fields.proofs.print.+print_fields+print_nested.{statement}
 use Rattle.test_fields.proofs.print.+print_fields+print_nested.Tie.{close}
 

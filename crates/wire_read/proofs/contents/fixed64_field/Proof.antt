@@ -9,32 +9,16 @@ use Rattle.wire_read.proofs.FixedLaws.{room, in-slice, refusal, found}
 use Rattle.wire_read.proofs.contents.fixed64_field.Statement.{statement}
 use Rattle.wire_read.proofs.contents.fixed64_field.Tie as tie
 
-skip-fixed-requires : tie.Need-skip-fixed-requires
-skip-fixed-requires c κs = search needs
-
-enum-known-k : tie.Need-enum-known-k
-enum-known-k c = search needs
-
-enum-known-k-2 : tie.Need-enum-known-k-2
-enum-known-k-2 c = search needs
-
-little64-requires : tie.Need-little64-requires
-little64-requires c κs = in-slice _ _ _ 8 _ (c .before .before .before .skip-fixed .ensures) (lit< tt) _ (c .before .k2 .given .1)
-
-returns : tie.Need-returns
-unfolding content
-returns c = refusal _ _ _ 8 _ (c .before .before .before .skip-fixed .ensures) _ _ (c .before .k .given .1)
-
-returns-2 : tie.Need-returns-2
+pub fixed64-field-spec : {M : Type 1} → statement M
 unfolding content fieldAt
-returns-2 c =
+fixed64-field-spec =
+    tie.close
+    (tie.spec (λ c κs. search needs) (λ c. search needs) (λ c. search needs)
+    (λ c κs. in-slice _ _ _ 8 _ (c .before .before .before .skip-fixed .ensures) (lit< tt) _ (c .before .k2 .given .1))
+    (λ c. refusal _ _ _ 8 _ (c .before .before .before .skip-fixed .ensures) _ _ (c .before .k .given .1))
+    (λ c.
     let at-skip-fixed = c .before .before .before .before in
     let number = at-skip-fixed .before .before .args .number in
     let next = c .before .before .k2 .given .1 in
     ap (Fixed64 number (c .little64 .result)) (room _ _ _ 8 _ (at-skip-fixed .skip-fixed .ensures) _ next .1)
-    ∙ found _ _ _ 8 _ (at-skip-fixed .skip-fixed .ensures) (λ v. fixed64Field number v 8) _ _ next (c .little64 .ensures)
-
-pub fixed64-field-spec : {M : Type 1} → statement M
-fixed64-field-spec =
-    tie.close
-    (tie.spec skip-fixed-requires enum-known-k enum-known-k-2 little64-requires returns returns-2)
+    ∙ found _ _ _ 8 _ (at-skip-fixed .skip-fixed .ensures) (λ v. fixed64Field number v 8) _ _ next (c .little64 .ensures)))

@@ -16,39 +16,9 @@ eight-bytes : (s : List ℕ) (at : ℕ) → at + 8 ≤ length s → (low high : 
 eight-bytes s at h low high el eh =
     omega (arith, little-four s at 0 (omega arith), little-four s at 4 (omega arith), little-none)
 
-little32-requires : tie.Need-little32-requires
-little32-requires c κs = search needs
-
-cast-low : tie.Need-cast-low
-cast-low c = search needs
-
-add-little32 : tie.Need-add-little32
-add-little32 c = search needs
-
-little32-requires-2 : tie.Need-little32-requires-2
-little32-requires-2 c κs = search needs
-
-cast-high : tie.Need-cast-high
-cast-high c = search needs
-
-mul-result : tie.Need-mul-result
-mul-result c = search needs
-
-add-result : tie.Need-add-result
-add-result c = search needs
-
-returns : tie.Need-returns
-returns c = eight-bytes _ _ (c .before .before .before .pre) _ _ (c .before .little32 .ensures) (c .little322 .ensures)
-
 pub little64-spec : {M : Type 1} → statement M
 little64-spec =
     tie.close
-    (tie.spec
-    little32-requires
-    cast-low
-    add-little32
-    little32-requires-2
-    cast-high
-    mul-result
-    add-result
-    returns)
+    (tie.spec (λ c κs. search needs) (λ c. search needs) (λ c. search needs) (λ c κs. search needs) (λ c. search needs)
+    (λ c. search needs) (λ c. search needs)
+    (λ c. eight-bytes _ _ (c .before .before .before .pre) _ _ (c .before .little32 .ensures) (c .little322 .ensures)))

@@ -23,23 +23,9 @@ module _ (s : List ℕ) (at end stop : ℕ) (is-stop : stop ≡ min end (length 
   unfolding skipFixed skipAt
   too-short h = rw (lt-leb width (length (part s at end)) (omega (arith, part-length s at end)))
 
-part-end-requires : tie.Need-part-end-requires
-part-end-requires c κs = search needs
-
-sub-if2 : tie.Need-sub-if2
-sub-if2 c = search needs
-
-add-t9 : tie.Need-add-t9
-add-t9 c = search needs
-
-returns : tie.Need-returns
-returns c = over _ _ _ _ (c .before .before .part-end .ensures) _ (c .before .if1 .taken) (c .if2 .taken)
-
-returns-2 : tie.Need-returns-2
-returns-2 c = too-short _ _ _ _ (c .before .before .part-end .ensures) _ (omega (arith, c .if2 .left))
-
-returns-3 : tie.Need-returns-3
-returns-3 c = too-short _ _ _ _ (c .before .part-end .ensures) _ (omega (arith, c .if1 .left, c .before .before .before .pre))
-
 pub skip-fixed-spec : {M : Type 1} → statement M
-skip-fixed-spec = tie.close (tie.spec part-end-requires sub-if2 add-t9 returns returns-2 returns-3)
+skip-fixed-spec = tie.close
+    (tie.spec (λ c κs. search needs) (λ c. search needs) (λ c. search needs)
+    (λ c. over _ _ _ _ (c .before .before .part-end .ensures) _ (c .before .if1 .taken) (c .if2 .taken))
+    (λ c. too-short _ _ _ _ (c .before .before .part-end .ensures) _ (omega (arith, c .if2 .left)))
+    (λ c. too-short _ _ _ _ (c .before .part-end .ensures) _ (omega (arith, c .if1 .left, c .before .before .before .pre))))

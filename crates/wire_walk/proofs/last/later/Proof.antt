@@ -3,11 +3,8 @@ use borrow.Author.Needs.{needs}
 use Rattle.wire_walk.proofs.last.later.Statement.{statement}
 use Rattle.wire_walk.proofs.last.later.Tie as tie
 
-returns : tie.Need-returns
-returns c = rw (← c .before .takes-over .ensures, c .if1 .taken)
-
-returns-2 : tie.Need-returns-2
-returns-2 c = rw (← c .before .takes-over .ensures, c .if1 .left)
-
 pub later-spec : {M : Type 1} → statement M
-later-spec = tie.close (tie.spec (λ c κs. search needs) returns returns-2)
+later-spec = tie.close
+    (tie.spec (λ c κs. search needs)
+    (λ c. rw (← c .before .takes-over .ensures, c .if1 .taken))
+    (λ c. rw (← c .before .takes-over .ensures, c .if1 .left)))

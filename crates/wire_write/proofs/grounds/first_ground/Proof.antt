@@ -1,5 +1,4 @@
 -- `first_ground` meets its contract: the tag is asked before the room.
-use Prim.Native.Nat.{ℕ}
 use mathlib.Core.Path.{_≡_}
 use mathlib.Core.Bool.{Bool, true, false}
 use Rattle.wire_write.specs.Writing.{firstGround}
@@ -16,14 +15,9 @@ module _ (good room : Bool) where
   bad-tag : good ≡ false → 11 ≡ firstGround good room
   bad-tag g = rw g
 
-returns : tie.Need-returns
-returns c = no-ground _ _ (c .before .if1 .taken) (c .if2 .taken)
-
-returns-2 : tie.Need-returns-2
-returns-2 c = no-room _ _ (c .before .if1 .taken) (c .if2 .left)
-
-returns-3 : tie.Need-returns-3
-returns-3 c = bad-tag _ (c .before .args .room) (c .if1 .left)
-
 pub first-ground-spec : {M : Type 1} → statement M
-first-ground-spec = tie.close (tie.spec returns returns-2 returns-3)
+first-ground-spec = tie.close
+    (tie.spec
+    (λ c. no-ground _ _ (c .before .if1 .taken) (c .if2 .taken))
+    (λ c. no-room _ _ (c .before .if1 .taken) (c .if2 .left))
+    (λ c. bad-tag _ (c .before .args .room) (c .if1 .left)))

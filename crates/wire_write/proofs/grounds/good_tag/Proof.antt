@@ -23,20 +23,9 @@ module _ (n w : ℕ) where
   unfolding goodTag
   too-large h = rw (le-ltb (n * 8 + w) (2 ^ 32) (omega arith))
 
-mul-if1 : tie.Need-mul-if1
-mul-if1 c = search needs
-
-add-if1 : tie.Need-add-if1
-add-if1 c = search needs
-
-returns : tie.Need-returns
-returns c = by-type _ _ (c .before .if1 .taken) (c .if2 .taken)
-
-returns-2 : tie.Need-returns-2
-returns-2 c = bad-number _ _ (c .before .if1 .taken) (c .if2 .left)
-
-returns-3 : tie.Need-returns-3
-returns-3 c = too-large _ _ (c .if1 .left)
-
 pub good-tag-spec : {M : Type 1} → statement M
-good-tag-spec = tie.close (tie.spec mul-if1 add-if1 returns returns-2 returns-3)
+good-tag-spec = tie.close
+    (tie.spec (λ c. search needs) (λ c. search needs)
+    (λ c. by-type _ _ (c .before .if1 .taken) (c .if2 .taken))
+    (λ c. bad-number _ _ (c .before .if1 .taken) (c .if2 .left))
+    (λ c. too-large _ _ (c .if1 .left)))

@@ -16,20 +16,11 @@ module _ (at head size len : ℕ) (b : Bool) (is-b : b ≡ leb (at + head) len) 
   no-room : b ≡ false → false ≡ leb (at + head + size) len
   no-room t = sym (lt-leb (at + head + size) len (omega (arith, leb-false (at + head) len (sym is-b ∙ t))))
 
-has-room-requires : tie.Need-has-room-requires
-has-room-requires c κs = search needs
-
 add-has-room : tie.Need-add-has-room
 add-has-room c =
     let args = c .before .before .before .args in
     let fits = first-fits (args .at) (args .head) (args .size) _ _ (c .before .has-room .ensures) (c .if1 .taken) in
     omega arith
-
-has-room-requires-2 : tie.Need-has-room-requires-2
-has-room-requires-2 c κs = search needs
-
-returns : tie.Need-returns
-returns c = search needs
 
 returns-2 : tie.Need-returns-2
 returns-2 c =
@@ -38,4 +29,4 @@ returns-2 c =
 
 pub has-room-for-both-spec : {M : Type 1} → statement M
 has-room-for-both-spec =
-    tie.close (tie.spec has-room-requires add-has-room has-room-requires-2 returns returns-2)
+    tie.close (tie.spec (λ c κs. search needs) add-has-room (λ c κs. search needs) (λ c. search needs) returns-2)

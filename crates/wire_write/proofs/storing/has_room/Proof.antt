@@ -19,14 +19,8 @@ sooner at size len h = by (leb size (len - at)) refl
 past : (at size len : ℕ) → len < at → false ≡ leb (at + size) len
 past at size len h = sym (lt-leb (at + size) len (omega arith))
 
-sub-result : tie.Need-sub-result
-sub-result c = search needs
-
-returns : tie.Need-returns
-returns c = sooner _ _ _ (c .if1 .taken)
-
-returns-2 : tie.Need-returns-2
-returns-2 c = past _ _ _ (c .if1 .left)
-
 pub has-room-spec : {M : Type 1} → statement M
-has-room-spec = tie.close (tie.spec sub-result returns returns-2)
+has-room-spec = tie.close
+    (tie.spec (λ c. search needs)
+    (λ c. sooner _ _ _ (c .if1 .taken))
+    (λ c. past _ _ _ (c .if1 .left)))

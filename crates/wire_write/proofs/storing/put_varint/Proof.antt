@@ -75,53 +75,18 @@ Inv-loop v out₀ at rest₀ i₀ out rest i = Putting v out₀ at out rest i
 abbrev μ-loop : tie.MeasureT-loop
 μ-loop v out₀ at rest₀ i₀ out rest i = rest
 
-loop-holds : tie.Need-loop-holds Inv-loop μ-loop
-loop-holds c = start _ _ _ (omega arith) (c .pre)
-
-cast-out : tie.Need-cast-out Inv-loop μ-loop
-cast-out c = group-fits (c .before .loop .rest) _ (lit< tt)
-
-slice-write-out : tie.Need-slice-write-out Inv-loop μ-loop
-slice-write-out c = in-out _ _ _ _ _ _ (c .before .loop .inv)
-
-add-i : tie.Need-add-i Inv-loop μ-loop
-add-i c = omega (arith, in-out _ _ _ _ _ _ (c .before .loop .inv))
-
-loop-less : tie.Need-loop-less Inv-loop μ-loop
-loop-less c = omega arith
-
-loop-again : tie.Need-loop-again Inv-loop μ-loop
-loop-again c = again _ _ _ _ _ _ (c .before .loop .inv) (c .loop-test .taken)
-
-cast-out-2 : tie.Need-cast-out-2 Inv-loop μ-loop
-cast-out-2 c = search needs
-
-slice-write-out-2 : tie.Need-slice-write-out-2 Inv-loop μ-loop
-slice-write-out-2 c = in-out _ _ _ _ _ _ (c .before .loop .inv)
-
-add-result : tie.Need-add-result Inv-loop μ-loop
-add-result c = omega (arith, in-out _ _ _ _ _ _ (c .before .loop .inv))
-
-same-length : tie.Need-same-length Inv-loop μ-loop
-same-length c = simp length-set (c .before .loop .inv .size)
-
-returns : tie.Need-returns Inv-loop μ-loop
-returns c = done _ _ _ _ _ _ (c .before .loop .inv) (c .loop-test .left)
-
 pub put-varint-spec : {M : Type 1} → statement M
 put-varint-spec =
     tie.close
-    (tie.spec
-    Inv-loop
-    μ-loop
-    loop-holds
-    cast-out
-    slice-write-out
-    add-i
-    loop-less
-    loop-again
-    cast-out-2
-    slice-write-out-2
-    add-result
-    same-length
-    returns)
+    (tie.spec Inv-loop μ-loop
+    (λ c. start _ _ _ (omega arith) (c .pre))
+    (λ c. group-fits (c .before .loop .rest) _ (lit< tt))
+    (λ c. in-out _ _ _ _ _ _ (c .before .loop .inv))
+    (λ c. omega (arith, in-out _ _ _ _ _ _ (c .before .loop .inv)))
+    (λ c. omega arith)
+    (λ c. again _ _ _ _ _ _ (c .before .loop .inv) (c .loop-test .taken))
+    (λ c. search needs)
+    (λ c. in-out _ _ _ _ _ _ (c .before .loop .inv))
+    (λ c. omega (arith, in-out _ _ _ _ _ _ (c .before .loop .inv)))
+    (λ c. simp length-set (c .before .loop .inv .size))
+    (λ c. done _ _ _ _ _ _ (c .before .loop .inv) (c .loop-test .left)))

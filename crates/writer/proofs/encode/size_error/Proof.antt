@@ -4,7 +4,7 @@ use mathlib.Core.Path.{_≡_, refl}
 use mathlib.Core.Bool.{Bool, true, false}
 use lib.Dec.{leb}
 use borrow.Author.Tests.{le-leb, lt-leb, leb-true, leb-false}
-use Rattle.deframer.specs.Header.{maxFrame}
+use Rattle.fixed_header.specs.Header.{maxFrame}
 use Rattle.writer.specs.Writing.{sizeError}
 use Rattle.writer.specs.Items.{SizeOf}
 use borrow.Author.Needs.{needs}
@@ -26,9 +26,6 @@ module _ (total n : ℕ) (is : SizeOf total n) where
       by : (b : Bool) → leb total maxFrame ≡ b → n ≡ total
       by true e = is .0 (leb-true total maxFrame e)
       by false e = absurd (omega (arith, is .1 (leb-false total maxFrame e)))
-
-frame-size-requires : tie.Need-frame-size-requires
-frame-size-requires c κs = search needs
 
 returns : tie.Need-returns
 unfolding sizeError
@@ -74,5 +71,4 @@ returns-4 c =
     )
 
 pub size-error-spec : {M : Type 1} → statement M
-size-error-spec =
-    tie.close (tie.spec frame-size-requires returns returns-2 returns-3 returns-4)
+size-error-spec = tie.close (tie.spec (λ c κs. search needs) returns returns-2 returns-3 returns-4)

@@ -4,12 +4,12 @@ use mathlib.Core.Path.{_≡_, sym, ap, _∙_}
 use mathlib.Core.Bool.{true}
 use mathlib.Core.List.{List}
 use lib.ListN.{length}
-use Rattle.deframer.specs.Header.{maxFrame}
+use Rattle.fixed_header.specs.Header.{maxFrame}
 use Rattle.decoder.specs.Rows.{rowsIn}
 use Rattle.writer.specs.Writing.{maxHeader, sizeError}
-use Rattle.outgoing.specs.Items.{schemaNumber}
+use Rattle.schema.specs.Kinds.{schemaNumber}
 use Rattle.writer.specs.Items.{sizesOf, messageWithin, Lent, RowsIn, messageIn}
-use Rattle.outgoing.specs.declared.Content.{Content}
+use Rattle.records.specs.declared.Content.{Content}
 use Rattle.writer.specs.declared.sizes.Sizes.{Sizes}
 use Rattle.writer.proofs.Messages.{size-is}
 use Rattle.writer.proofs.Refusals.{no-error, refused-size, framed}
@@ -36,15 +36,6 @@ module _ (c : Content) (source numbers body out : List ℕ)
       let fine = no-error (sizes .message) (16 + sizes .message + length body) (length out) (sym is-e ∙ h) in
       (pre .1, pre .2, sizes-are, fine .1, fine .0, fine .2)
 
-schema-number-requires : tie.Need-schema-number-requires
-schema-number-requires c κs = search needs
-
-message-sizes-requires : tie.Need-message-sizes-requires
-message-sizes-requires c κs = search needs
-
-size-error-requires : tie.Need-size-error-requires
-size-error-requires c κs = search needs
-
 returns : tie.Need-returns
 returns c =
     let at-message-sizes = c .before .before in
@@ -67,9 +58,6 @@ put-frame-requires c κs =
     (at-schema-number .schema-number .ensures)
     _ (at-message-sizes .message-sizes .ensures .0) _ (at-size-error .size-error .ensures) (c .before .if1 .left)
 
-same-length : tie.Need-same-length
-same-length c = search needs
-
 returns-2 : tie.Need-returns-2
 returns-2 c =
     let at-put-frame = c .before .before in
@@ -87,11 +75,5 @@ returns-2 c =
 pub write-content-spec : {M : Type 1} → statement M
 write-content-spec =
     tie.close
-    (tie.spec
-    schema-number-requires
-    message-sizes-requires
-    size-error-requires
-    returns
-    put-frame-requires
-    same-length
+    (tie.spec (λ c κs. search needs) (λ c κs. search needs) (λ c κs. search needs) returns put-frame-requires (λ c. search needs)
     returns-2)

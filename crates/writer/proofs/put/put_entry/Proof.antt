@@ -15,7 +15,8 @@ use Rattle.writer.proofs.put.put_entry.Statement.{statement}
 use Rattle.writer.proofs.put.put_entry.Tie as tie
 
 module _ (n : ℕ) (source : List ℕ) (row : Row) (out : List ℕ) (at : ℕ)
-    (pre : RowIn (length source) row × (at + length (putBytes n (putEntry source row)) ≤ length out)) (size : ℕ) (is-size : size ≡ entrySize row) where
+    (pre : RowIn (length source) row
+    × (at + length (putBytes n (putEntry source row)) ≤ length out)) (size : ℕ) (is-size : size ≡ entrySize row) where
   abbrev head : List ℕ
   head = putTag n 2 ++ putVarint size
 
@@ -48,14 +49,12 @@ module _ (n : ℕ) (source : List ℕ) (row : Row) (out : List ℕ) (at : ℕ)
       done : {end : ℕ} {out₃ : List ℕ} → Puts value out₂ next end out₃ → Puts (putBytes n (putEntry source row)) out at end out₃
       done third = ends (steps key value inner second) third
 
-entry-size-requires : tie.Need-entry-size-requires
-entry-size-requires c κs = search needs
-
 put-tagged-requires : tie.Need-put-tagged-requires
 put-tagged-requires c κs =
     let start = c .before .before .before .before in
     let args = start .args in
-    head-fits (args .number) (args .source .now) (rowOf (args .e)) (args .out .now) (args .at) (start .pre) _ (c .before .entry-size .ensures .0)
+    head-fits (args .number) (args .source .now) (rowOf (args .e)) (args .out .now) (args .at) (start .pre) _
+    (c .before .entry-size .ensures .0)
 
 put-span-requires : tie.Need-put-span-requires
 put-span-requires c κs =
@@ -80,9 +79,6 @@ put-span-requires-2 c κs =
           (at-entry-size .entry-size .ensures .0) (at-put-tagged .put-tagged .ensures) (at-put-span .put-span .ensures),
     )
 
-same-length : tie.Need-same-length
-same-length c = search needs
-
 returns : tie.Need-returns
 returns c =
     let at-put-span2 = c .before .before in
@@ -91,16 +87,10 @@ returns c =
     let at-entry-size = at-put-tagged .before .before in
     let start = at-entry-size .before .before .before in
     let args = start .args in
-    done (args .number) (args .source .now) (rowOf (args .e)) (args .out .now) (args .at) (start .pre) _ (at-entry-size .entry-size .ensures .0)
+    done (args .number) (args .source .now) (rowOf (args .e)) (args .out .now) (args .at) (start .pre) _
+    (at-entry-size .entry-size .ensures .0)
     (at-put-tagged .put-tagged .ensures) (at-put-span .put-span .ensures) (at-put-span2 .put-span2 .ensures)
 
 pub put-entry-spec : {M : Type 1} → statement M
 put-entry-spec =
-    tie.close
-    (tie.spec
-    entry-size-requires
-    put-tagged-requires
-    put-span-requires
-    put-span-requires-2
-    same-length
-    returns)
+    tie.close (tie.spec (λ c κs. search needs) put-tagged-requires put-span-requires put-span-requires-2 (λ c. search needs) returns)

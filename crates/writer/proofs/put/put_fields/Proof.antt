@@ -4,9 +4,10 @@ use mathlib.Core.Path.{_≡_, sym, subst}
 use mathlib.Core.Bool.{true}
 use lib.ListN.{length, drop}
 use Rattle.decoder.specs.Rows.{rowsIn}
-use Rattle.outgoing.specs.Items.{itemsOf, itemWithin}
+use Rattle.schema.specs.Items.{itemsOf}
+use Rattle.writer_checks.specs.ItemGrounds.{itemWithin}
 use Rattle.writer.specs.Items.{putItems}
-use Rattle.outgoing.specs.declared.Item.{Item}
+use Rattle.schema.specs.declared.Item.{Item}
 use Rattle.writer.proofs.FieldLists.{item-within, item-fits, put-more, put-all}
 use Rattle.writer.proofs.Outputs.{Left, starts}
 use borrow.Author.Needs.{needs}
@@ -27,9 +28,6 @@ loop-holds : tie.Need-loop-holds Inv-loop μ-loop
 loop-holds c =
     let start = c .before .before .before in (omega arith, starts _ _ _ (start .pre .2))
 
-item-at-requires : tie.Need-item-at-requires Inv-loop μ-loop
-item-at-requires c κs = search needs
-
 put-item-requires : tie.Need-put-item-requires Inv-loop μ-loop
 put-item-requires c κs =
     let at-loop = c .before .before .before in
@@ -43,12 +41,6 @@ put-item-requires c κs =
           (item-within _ _ (itemsOf (args .schema)) (at-loop .loop .k) (start .pre .1)),
       item-fits _ _ _ _ _ (inv .1) _ (is-x .0),
     )
-
-add-k : tie.Need-add-k Inv-loop μ-loop
-add-k c = omega arith
-
-loop-less : tie.Need-loop-less Inv-loop μ-loop
-loop-less c = omega arith
 
 loop-again : tie.Need-loop-again Inv-loop μ-loop
 loop-again c =
@@ -66,14 +58,5 @@ returns c = put-all _ _ _ _ _ (c .before .loop .inv .1) (c .loop-test .left)
 pub put-fields-spec : {M : Type 1} → statement M
 put-fields-spec =
     tie.close
-    (tie.spec
-    Inv-loop
-    μ-loop
-    loop-holds
-    item-at-requires
-    put-item-requires
-    add-k
-    loop-less
-    loop-again
-    same-length
-    returns)
+    (tie.spec Inv-loop μ-loop loop-holds (λ c κs. search needs) put-item-requires (λ c. omega arith) (λ c. omega arith) loop-again
+    same-length returns)

@@ -1,12 +1,13 @@
--- The two parts and its own fields, one behind the other.
+-- The two parts and its own fields, one after the other.
 use Prim.Native.Nat.{ℕ, _+_, _≤_}
 use mathlib.Core.Path.{_≡_, ap}
 use mathlib.Core.Bool.{true, _&&_}
 use mathlib.Core.List.{List, _++_}
 use lib.ListN.{length, getD}
-use Rattle.deframer.proofs.Codes.{both}
+use Rattle.laws.proofs.Booleans.{both}
 use Rattle.decoder.specs.Rows.{Row}
-use Rattle.outgoing.specs.Items.{itemsOf, itemsWithin}
+use Rattle.schema.specs.Items.{itemsOf}
+use Rattle.writer_checks.specs.ItemGrounds.{itemsWithin}
 use Rattle.writer.specs.Items.{Puts, putItems, putPart, putInit, itemsSize, initSizes, initWithin}
 use Rattle.writer.specs.declared.sizes.Sizes.{Sizes}
 use Rattle.writer.proofs.Outputs.{Left, starts, first-fits, steps, ends}
@@ -15,7 +16,8 @@ use Rattle.writer.proofs.put.put_init.Statement.{statement}
 use Rattle.writer.proofs.put.put_init.Tie as tie
 
 in-parts : (size : ℕ) (slots : List ℕ) → initWithin size slots ≡ true
-    → (itemsWithin size slots (itemsOf 6) ≡ true) × (itemsWithin size slots (itemsOf 7) ≡ true) × (itemsWithin size slots (itemsOf 2) ≡ true)
+    → (itemsWithin size slots (itemsOf 6) ≡ true) × (itemsWithin size slots (itemsOf 7) ≡ true)
+    × (itemsWithin size slots (itemsOf 2) ≡ true)
 unfolding initWithin
 in-parts size slots e =
     let a = both (itemsWithin size slots (itemsOf 6)) (itemsWithin size slots (itemsOf 7) && itemsWithin size slots (itemsOf 2)) e in
@@ -59,9 +61,6 @@ module _ (source : List ℕ) (rows : List Row) (slots : List ℕ) (within : init
       done : {end : ℕ} {out₃ : List ℕ} → Puts own out₂ j end out₃ → Puts (putInit source rows slots) out at end out₃
       done three = ends (steps (second n) own left two) three
 
-value-at-requires : tie.Need-value-at-requires
-value-at-requires c κs = search needs
-
 put-part-requires : tie.Need-put-part-requires
 put-part-requires c κs =
     let start = c .before .before .before .before .before in
@@ -71,9 +70,6 @@ put-part-requires c κs =
       sizes-in _ _ _ (start .pre .2) .0,
       first-fit (args .source .now) _ _ (start .pre .1) (args .out .now) (args .at) (start .pre .3) _ (c .before .value-at .ensures),
     )
-
-value-at-requires-2 : tie.Need-value-at-requires-2
-value-at-requires-2 c κs = search needs
 
 put-part-requires-2 : tie.Need-put-part-requires-2
 put-part-requires-2 c κs =
@@ -102,9 +98,6 @@ put-fields-requires c κs =
           (at-put-part .put-part .ensures) _ (at-value-at2 .value-at2 .ensures) (at-put-part2 .put-part2 .ensures),
     )
 
-same-length : tie.Need-same-length
-same-length c = search needs
-
 returns : tie.Need-returns
 returns c =
     let at-put-fields = c .before .before in
@@ -115,16 +108,11 @@ returns c =
     let start = at-value-at .before .before .before .before in
     let args = start .args in
     done (args .source .now) _ _ (start .pre .1) (args .out .now) (args .at) (start .pre .3) _ (at-value-at .value-at .ensures)
-    (at-put-part .put-part .ensures) _ (at-value-at2 .value-at2 .ensures) (at-put-part2 .put-part2 .ensures) (at-put-fields .put-fields .ensures)
+    (at-put-part .put-part .ensures) _ (at-value-at2 .value-at2 .ensures) (at-put-part2 .put-part2 .ensures)
+    (at-put-fields .put-fields .ensures)
 
 pub put-init-spec : {M : Type 1} → statement M
 put-init-spec =
     tie.close
-    (tie.spec
-    value-at-requires
-    put-part-requires
-    value-at-requires-2
-    put-part-requires-2
-    put-fields-requires
-    same-length
-    returns)
+    (tie.spec (λ c κs. search needs) put-part-requires (λ c κs. search needs) put-part-requires-2 put-fields-requires
+    (λ c. search needs) returns)

@@ -1,15 +1,12 @@
 -- Case by case, with the values of the slots, which exist (`Placed`).
 use mathlib.Core.Path.{subst}
-use Rattle.outgoing.specs.Items.{Placed}
+use Rattle.schema.specs.Items.{Placed}
 use Rattle.writer.proofs.ItemCases.{put-unsigned, put-signed, put-bytes, put-map, put-end, bytes-in}
 use Rattle.writer.proofs.Outputs.{nothing}
 use borrow.Author.Needs.{needs}
 use native.Mathlib.Omega.{arith}
 use Rattle.writer.proofs.put.put_item.Statement.{statement}
 use Rattle.writer.proofs.put.put_item.Tie as tie
-
-enum-known-item : tie.Need-enum-known-item
-enum-known-item c = search needs
 
 value-at-requires : tie.Need-value-at-requires
 value-at-requires c κs =
@@ -22,9 +19,6 @@ put-number-requires c κs =
     let start = at-item .before .before .before .before .before in
     rw (put-unsigned _ _ _ _ _ _ (at-item .item .given .1) (c .before .value-at .ensures)) at (start .pre .3)
 
-enum-known-item-2 : tie.Need-enum-known-item-2
-enum-known-item-2 c = search needs
-
 value-at-requires-2 : tie.Need-value-at-requires-2
 value-at-requires-2 c κs =
     let start = c .before .before .before .before .before .before in
@@ -35,9 +29,6 @@ put-number-requires-2 c κs =
     let at-item2 = c .before .before .before in
     let start = at-item2 .before .before .before .before .before in
     rw (put-signed _ _ _ _ _ _ (at-item2 .item2 .given .1) (c .before .value-at2 .ensures)) at (start .pre .3)
-
-enum-known-item-3 : tie.Need-enum-known-item-3
-enum-known-item-3 c = search needs
 
 value-at-requires-3 : tie.Need-value-at-requires-3
 value-at-requires-3 c κs =
@@ -66,23 +57,11 @@ put-some-requires c κs =
     let is-size = c .before .value-at4 .ensures in
     (bytes-in _ _ _ _ _ _ is-x is-at is-size (start .pre .2), rw (put-bytes _ _ _ _ _ _ _ is-x is-at is-size) at (start .pre .3))
 
-enum-known-item-4 : tie.Need-enum-known-item-4
-enum-known-item-4 c = search needs
-
-cast-put-rows : tie.Need-cast-put-rows
-cast-put-rows c = search needs
-
 put-rows-requires : tie.Need-put-rows-requires
 put-rows-requires c κs =
     let at-item4 = c .before .before .before in
     let start = at-item4 .before .before .before .before .before in
     (start .pre .1, rw (put-map _ _ _ _ (at-item4 .item4 .given .1)) at (start .pre .3))
-
-enum-told : tie.Need-enum-told
-enum-told c = search needs
-
-same-length : tie.Need-same-length
-same-length c = search needs
 
 returns : tie.Need-returns
 returns c =
@@ -91,18 +70,12 @@ returns c =
     let at-item = at-value-at .before .before in
     rw (put-unsigned _ _ _ _ _ _ (at-item .item .given .1) (at-value-at .value-at .ensures)) (at-put-number .put-number .ensures)
 
-same-length-2 : tie.Need-same-length-2
-same-length-2 c = search needs
-
 returns-2 : tie.Need-returns-2
 returns-2 c =
     let at-put-number2 = c .before .before in
     let at-value-at2 = at-put-number2 .before .before in
     let at-item2 = at-value-at2 .before .before in
     rw (put-signed _ _ _ _ _ _ (at-item2 .item2 .given .1) (at-value-at2 .value-at2 .ensures)) (at-put-number2 .put-number2 .ensures)
-
-same-length-3 : tie.Need-same-length-3
-same-length-3 c = search needs
 
 returns-3 : tie.Need-returns-3
 returns-3 c =
@@ -112,9 +85,6 @@ returns-3 c =
     let at-item3 = at-value-at3 .before .before in
     rw (put-bytes _ _ _ _ _ _ _ (at-item3 .item3 .given .1) (at-value-at3 .value-at3 .ensures) (at-value-at4 .value-at4 .ensures))
     (at-put-some .put-some .ensures)
-
-same-length-4 : tie.Need-same-length-4
-same-length-4 c = search needs
 
 returns-4 : tie.Need-returns-4
 returns-4 c =
@@ -130,28 +100,7 @@ returns-5 c =
 pub put-item-spec : {M : Type 1} → statement M
 put-item-spec =
     tie.close
-    (tie.spec
-    enum-known-item
-    value-at-requires
-    put-number-requires
-    enum-known-item-2
-    value-at-requires-2
-    put-number-requires-2
-    enum-known-item-3
-    value-at-requires-3
-    add-value-at
-    value-at-requires-4
-    put-some-requires
-    enum-known-item-4
-    cast-put-rows
-    put-rows-requires
-    enum-told
-    same-length
-    returns
-    same-length-2
-    returns-2
-    same-length-3
-    returns-3
-    same-length-4
-    returns-4
-    returns-5)
+    (tie.spec (λ c. search needs) value-at-requires put-number-requires (λ c. search needs) value-at-requires-2 put-number-requires-2
+    (λ c. search needs) value-at-requires-3 add-value-at value-at-requires-4 put-some-requires (λ c. search needs) (λ c. search needs)
+    put-rows-requires (λ c. search needs) (λ c. search needs) returns (λ c. search needs) returns-2 (λ c. search needs) returns-3
+    (λ c. search needs) returns-4 returns-5)

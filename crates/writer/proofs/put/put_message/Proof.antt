@@ -11,9 +11,6 @@ put-init-requires c κs =
     let init = eq-eqb (args .schema) 2 (c .before .if1 .taken) in
     (start .pre .0, rw init at (start .pre .1), rw init at (start .pre .2), rw init at (start .pre .3))
 
-same-length : tie.Need-same-length
-same-length c = search needs
-
 returns : tie.Need-returns
 returns c =
     let at-put-init = c .before .before in
@@ -29,9 +26,6 @@ put-fields-requires c κs =
     let other = ne-eqb (args .schema) 2 (c .before .if1 .left) in
     (start .pre .0, rw other at (start .pre .1), rw other at (start .pre .3))
 
-same-length-2 : tie.Need-same-length-2
-same-length-2 c = search needs
-
 returns-2 : tie.Need-returns-2
 returns-2 c =
     let at-put-fields = c .before .before in
@@ -41,6 +35,4 @@ returns-2 c =
     rw (ne-eqb (args .schema) 2 (at-if .if1 .left)) (at-put-fields .put-fields .ensures)
 
 pub put-message-spec : {M : Type 1} → statement M
-put-message-spec =
-    tie.close
-    (tie.spec put-init-requires same-length returns put-fields-requires same-length-2 returns-2)
+put-message-spec = tie.close (tie.spec put-init-requires (λ c. search needs) returns put-fields-requires (λ c. search needs) returns-2)

@@ -13,9 +13,6 @@ returns c =
     let out-is = number-out (integerOf (start .args .signed)) (start .args .number) (start .args .value) (c .if1 .taken) in
     rw out-is (nothing (start .args .out .now) (start .args .at) (omega arith))
 
-widened-requires : tie.Need-widened-requires
-widened-requires c κs = search needs
-
 put-tagged-requires : tie.Need-put-tagged-requires
 put-tagged-requires c κs =
     let at-if = c .before .before in
@@ -23,9 +20,6 @@ put-tagged-requires c κs =
     let args = start .args in
     let same = number-in (integerOf (args .signed)) (args .number) (args .value) (at-if .if1 .left) in
     rw (c .before .widened .ensures, ← same) (start .pre)
-
-same-length : tie.Need-same-length
-same-length c = search needs
 
 returns-2 : tie.Need-returns-2
 returns-2 c =
@@ -38,5 +32,4 @@ returns-2 c =
     rw (same, ← at-widened .widened .ensures) (at-put-tagged .put-tagged .ensures)
 
 pub put-number-spec : {M : Type 1} → statement M
-put-number-spec =
-    tie.close (tie.spec returns widened-requires put-tagged-requires same-length returns-2)
+put-number-spec = tie.close (tie.spec returns (λ c κs. search needs) put-tagged-requires (λ c. search needs) returns-2)

@@ -1,4 +1,4 @@
--- It is left out, or its tag and its size are stored, and its fields behind them. The size is the length of the fields (`Lengths`).
+-- It is left out, or its tag and its size are stored, and its fields after them. The size is the length of the fields (`Lengths`).
 use Prim.Native.Nat.{ℕ, _+_, _≤_}
 use mathlib.Core.Path.{_≡_, sym, _∙_}
 use mathlib.Core.Bool.{true}
@@ -8,7 +8,8 @@ use borrow.Author.Tests.{eq-eqb, ne-eqb}
 use Rattle.wire_write.specs.Writing.{putTag, putVarint}
 use Rattle.decoder.specs.Rows.{Row}
 use Rattle.writer_checks.specs.Grounds.{rowsWithin}
-use Rattle.outgoing.specs.Items.{itemsOf, itemsWithin}
+use Rattle.schema.specs.Items.{itemsOf}
+use Rattle.writer_checks.specs.ItemGrounds.{itemsWithin}
 use Rattle.writer.specs.Items.{Puts, putItems, putPart, itemsSize}
 use Rattle.writer.proofs.Lengths.{items-length}
 use Rattle.writer.proofs.Outputs.{Left, starts, first-fits, steps, ends, nothing}
@@ -55,7 +56,8 @@ put-tagged-requires : tie.Need-put-tagged-requires
 put-tagged-requires c κs =
     let start = c .before .before .before .before .before in
     let args = start .args in
-    head-fits (args .source .now) _ _ (start .pre .0 .within) (args .schema) (start .pre .1) (args .number) (args .mark) (c .before .if1 .left)
+    head-fits (args .source .now) _ _ (start .pre .0 .within) (args .schema) (start .pre .1) (args .number) (args .mark)
+    (c .before .if1 .left)
     (args .size) (start .pre .2) (args .out .now) (args .at) (start .pre .3)
 
 put-fields-requires : tie.Need-put-fields-requires
@@ -67,11 +69,9 @@ put-fields-requires c κs =
       start .pre .0,
       start .pre .1,
       fields-fit (args .source .now) _ _ (start .pre .0 .within) (args .schema) (start .pre .1)
-          (args .number) (args .mark) (at-if .if1 .left) (args .size) (start .pre .2) (args .out .now) (args .at) (start .pre .3) (at-put-tagged .put-tagged .ensures),
+          (args .number) (args .mark) (at-if .if1 .left) (args .size) (start .pre .2) (args .out .now) (args .at) (start .pre .3)
+          (at-put-tagged .put-tagged .ensures),
     )
-
-same-length : tie.Need-same-length
-same-length c = search needs
 
 returns-2 : tie.Need-returns-2
 returns-2 c =
@@ -80,9 +80,9 @@ returns-2 c =
     let at-if = at-put-tagged .before .before in
     let start = at-if .before .before .before .before in
     let args = start .args in
-    done (args .source .now) _ _ (start .pre .0 .within) (args .schema) (start .pre .1) (args .number) (args .mark) (at-if .if1 .left) (args .size)
+    done (args .source .now) _ _ (start .pre .0 .within) (args .schema) (start .pre .1) (args .number) (args .mark) (at-if .if1 .left)
+    (args .size)
     (start .pre .2) (args .out .now) (args .at) (start .pre .3) (at-put-tagged .put-tagged .ensures) (at-put-fields .put-fields .ensures)
 
 pub put-part-spec : {M : Type 1} → statement M
-put-part-spec =
-    tie.close (tie.spec returns put-tagged-requires put-fields-requires same-length returns-2)
+put-part-spec = tie.close (tie.spec returns put-tagged-requires put-fields-requires (λ c. search needs) returns-2)

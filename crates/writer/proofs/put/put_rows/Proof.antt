@@ -24,9 +24,6 @@ loop-holds : tie.Need-loop-holds Inv-loop μ-loop
 loop-holds c =
     let start = c .before .before .before in (omega arith, starts _ _ _ (start .pre .1))
 
-entry-at-requires : tie.Need-entry-at-requires Inv-loop μ-loop
-entry-at-requires c κs = omega arith
-
 put-entry-requires : tie.Need-put-entry-requires Inv-loop μ-loop
 put-entry-requires c κs =
     let start = c .before .before .before .before .before .before .before in
@@ -38,12 +35,6 @@ put-entry-requires c κs =
           (row-in (args .count) (args .rows .now) i (at-test .loop-test .taken) _ (start .pre .0 .within)),
       row-fits _ _ i _ _ (at-test .before .loop .inv .1) (at-test .loop-test .taken) _ is-row,
     )
-
-add-i : tie.Need-add-i Inv-loop μ-loop
-add-i c = omega arith
-
-loop-less : tie.Need-loop-less Inv-loop μ-loop
-loop-less c = omega arith
 
 loop-again : tie.Need-loop-again Inv-loop μ-loop
 loop-again c =
@@ -64,14 +55,5 @@ returns c = put-rows-all _ _ _ _ _ (c .before .loop .inv .1) (c .loop-test .left
 pub put-rows-spec : {M : Type 1} → statement M
 put-rows-spec =
     tie.close
-    (tie.spec
-    Inv-loop
-    μ-loop
-    loop-holds
-    entry-at-requires
-    put-entry-requires
-    add-i
-    loop-less
-    loop-again
-    same-length
-    returns)
+    (tie.spec Inv-loop μ-loop loop-holds (λ c κs. omega arith) put-entry-requires (λ c. omega arith) (λ c. omega arith) loop-again
+    same-length returns)

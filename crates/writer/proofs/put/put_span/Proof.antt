@@ -8,7 +8,7 @@ use Rattle.wire_write.specs.declared.Written.{Written}
 use Rattle.decoder.specs.Fields.{partOf}
 use Rattle.writer.specs.Items.{Puts, placeOf}
 use Rattle.writer.proofs.Lengths.{part-length}
-use Rattle.writer.proofs.Outputs.{Left, starts, first-fits, steps, ends, wrote}
+use Rattle.writer.proofs.Outputs.{Left, starts, first-fits, steps, ends, puts-written}
 use borrow.Author.Needs.{needs}
 use native.Mathlib.Omega.{arith}
 use Rattle.writer.proofs.put.put_span.Statement.{statement}
@@ -37,34 +37,13 @@ module _ (n : ℕ) (source : List ℕ) (first size : ℕ) (out : List ℕ) (at :
   span-put put w e r f after g =
       let same : first + size - first ≡ size = omega arith in
       let left = steps head content all put in
-      ends left (wrote _ _ _ (left .room) w (rw same at e) r f after (rw same at g))
-
-add-end : tie.Need-add-end
-add-end c = search needs
+      ends left (puts-written _ _ _ (left .room) w (rw same at e) r f after (rw same at g))
 
 put-tagged-requires : tie.Need-put-tagged-requires
 put-tagged-requires c κs =
     let start = c .before .before .before in
     let args = start .args in
     head-fits (args .number) (args .source .now) (args .start) (args .size) (args .out .now) (args .at) (start .pre)
-
-sub-write-raw : tie.Need-sub-write-raw
-sub-write-raw c = search needs
-
-part-write-raw-start : tie.Need-part-write-raw-start
-part-write-raw-start c = search needs
-
-part-write-raw-end : tie.Need-part-write-raw-end
-part-write-raw-end c = search needs
-
-write-raw-requires : tie.Need-write-raw-requires
-write-raw-requires c κs = search needs
-
-place-behind-requires : tie.Need-place-behind-requires
-place-behind-requires c κs = search needs
-
-same-length : tie.Need-same-length
-same-length c = search needs
 
 returns : tie.Need-returns
 returns c =
@@ -79,13 +58,5 @@ returns c =
 pub put-span-spec : {M : Type 1} → statement M
 put-span-spec =
     tie.close
-    (tie.spec
-    add-end
-    put-tagged-requires
-    sub-write-raw
-    part-write-raw-start
-    part-write-raw-end
-    write-raw-requires
-    place-behind-requires
-    same-length
-    returns)
+    (tie.spec (λ c. search needs) put-tagged-requires (λ c. search needs) (λ c. search needs) (λ c. search needs)
+    (λ c κs. search needs) (λ c κs. search needs) (λ c. search needs) returns)

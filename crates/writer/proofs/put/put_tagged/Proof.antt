@@ -1,31 +1,10 @@
 -- The tag, and the varint after it.
 use mathlib.Core.List.{_++_}
 use Rattle.wire_write.specs.Writing.{putTag, putVarint}
-use Rattle.writer.proofs.Outputs.{starts, first-fits, steps, ends, wrote}
+use Rattle.writer.proofs.Outputs.{starts, first-fits, steps, ends, puts-written}
 use borrow.Author.Needs.{needs}
 use Rattle.writer.proofs.put.put_tagged.Statement.{statement}
 use Rattle.writer.proofs.put.put_tagged.Tie as tie
-
-mul-tag : tie.Need-mul-tag
-mul-tag c = search needs
-
-add-tag : tie.Need-add-tag
-add-tag c = search needs
-
-write-varint-requires : tie.Need-write-varint-requires
-write-varint-requires c κs = search needs
-
-place-behind-requires : tie.Need-place-behind-requires
-place-behind-requires c κs = search needs
-
-write-varint-requires-2 : tie.Need-write-varint-requires-2
-write-varint-requires-2 c κs = search needs
-
-place-behind-requires-2 : tie.Need-place-behind-requires-2
-place-behind-requires-2 c κs = search needs
-
-same-length : tie.Need-same-length
-same-length c = search needs
 
 returns : tie.Need-returns
 returns c =
@@ -35,22 +14,15 @@ returns c =
     let at-tag = c .before .before .before .before .before .before .before .before in
     let args = start .args in
     let all = starts (putTag (args .number) (args .wire-type) ++ putVarint (args .value)) (args .out .now) (args .at) (start .pre) in
-    let tag = wrote _ _ _ (first-fits (putTag (args .number) (args .wire-type)) (putVarint (args .value)) all) _
+    let tag = puts-written _ _ _ (first-fits (putTag (args .number) (args .wire-type)) (putVarint (args .value)) all) _
     (at-tag .write-varint .ensures .0) _
     (at-place-behind .place-behind .ensures) _ (at-tag .write-varint .ensures .1) in
     let left = steps (putTag (args .number) (args .wire-type)) (putVarint (args .value)) all tag in
-    ends left (wrote _ _ _ (left .room) _ (at-varint .write-varint2 .ensures .0) _ (c .place-behind2 .ensures) _
+    ends left (puts-written _ _ _ (left .room) _ (at-varint .write-varint2 .ensures .0) _ (c .place-behind2 .ensures) _
     (at-varint .write-varint2 .ensures .1))
 
 pub put-tagged-spec : {M : Type 1} → statement M
 put-tagged-spec =
     tie.close
-    (tie.spec
-    mul-tag
-    add-tag
-    write-varint-requires
-    place-behind-requires
-    write-varint-requires-2
-    place-behind-requires-2
-    same-length
-    returns)
+    (tie.spec (λ c. search needs) (λ c. search needs) (λ c κs. search needs) (λ c κs. search needs) (λ c κs. search needs)
+    (λ c κs. search needs) (λ c. search needs) returns)

@@ -5,12 +5,6 @@ use native.Mathlib.Omega.{arith}
 use Rattle.writer.proofs.sizes.bytes_size.Statement.{statement}
 use Rattle.writer.proofs.sizes.bytes_size.Tie as tie
 
-tag-size-requires : tie.Need-tag-size-requires
-tag-size-requires c κs = search needs
-
-varint-len-requires : tie.Need-varint-len-requires
-varint-len-requires c κs = search needs
-
 add-result : tie.Need-add-result
 add-result c = omega (arith, c .before .tag-size .ensures, c .varint-len .ensures, varint-bounds (c .before .before .args .size))
 
@@ -21,5 +15,4 @@ returns : tie.Need-returns
 returns c = omega (arith, c .before .tag-size .ensures, c .varint-len .ensures, varint-bounds (c .before .before .args .size))
 
 pub bytes-size-spec : {M : Type 1} → statement M
-bytes-size-spec =
-    tie.close (tie.spec tag-size-requires varint-len-requires add-result add-result-2 returns)
+bytes-size-spec = tie.close (tie.spec (λ c κs. search needs) (λ c κs. search needs) add-result add-result-2 returns)

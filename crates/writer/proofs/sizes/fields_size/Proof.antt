@@ -3,7 +3,7 @@ use Prim.Native.Nat.{_+_, _*_, _-_, _≤_}
 use mathlib.Core.Path.{_≡_}
 use lib.ListN.{drop}
 use Rattle.decoder.specs.Rows.{rowsIn}
-use Rattle.outgoing.specs.Items.{itemsOf}
+use Rattle.schema.specs.Items.{itemsOf}
 use Rattle.writer.specs.Items.{itemsSize, mostItem}
 use Rattle.writer.proofs.FieldLists.{size-more, size-all}
 use borrow.Author.Needs.{needs}
@@ -23,20 +23,8 @@ abbrev μ-loop : tie.MeasureT-loop
 loop-holds : tie.Need-loop-holds Inv-loop μ-loop
 loop-holds c = (omega arith, omega arith, omega arith)
 
-item-at-requires : tie.Need-item-at-requires Inv-loop μ-loop
-item-at-requires c κs = search needs
-
 item-size-requires : tie.Need-item-size-requires Inv-loop μ-loop
 item-size-requires c κs = (c .item-at .ensures .1, c .before .before .before .before .pre)
-
-add-size : tie.Need-add-size Inv-loop μ-loop
-add-size c = omega arith
-
-add-k : tie.Need-add-k Inv-loop μ-loop
-add-k c = omega arith
-
-loop-less : tie.Need-loop-less Inv-loop μ-loop
-loop-less c = omega arith
 
 loop-again : tie.Need-loop-again Inv-loop μ-loop
 loop-again c =
@@ -50,14 +38,5 @@ returns c =
 pub fields-size-spec : {M : Type 1} → statement M
 fields-size-spec =
     tie.close
-    (tie.spec
-    Inv-loop
-    μ-loop
-    loop-holds
-    item-at-requires
-    item-size-requires
-    add-size
-    add-k
-    loop-less
-    loop-again
-    returns)
+    (tie.spec Inv-loop μ-loop loop-holds (λ c κs. search needs) item-size-requires (λ c. omega arith) (λ c. omega arith)
+    (λ c. omega arith) loop-again returns)

@@ -4,7 +4,7 @@ use mathlib.Core.Path.{_≡_}
 use mathlib.Core.List.{List}
 use lib.ListN.{getD}
 use Rattle.decoder.specs.Rows.{Row}
-use Rattle.outgoing.specs.Items.{itemsOf}
+use Rattle.schema.specs.Items.{itemsOf}
 use Rattle.writer.specs.Items.{itemsSize, sizeIf, initSizes, mostFields, mostMessage}
 use Rattle.writer.specs.declared.sizes.Sizes.{Sizes}
 use borrow.Author.Needs.{needs}
@@ -22,33 +22,6 @@ module _ (rows : List Row) (slots : List ℕ) (a b own m n first second : ℕ) w
   init-sizes-are is-a is-b is-own is-m is-n is-first is-second =
       (rw (is-first .0, is-second .0, is-a .0, is-b .0, is-own .0, is-m, is-n), omega arith)
 
-fields-size-requires : tie.Need-fields-size-requires
-fields-size-requires c κs = search needs
-
-fields-size-requires-2 : tie.Need-fields-size-requires-2
-fields-size-requires-2 c κs = search needs
-
-value-at-requires : tie.Need-value-at-requires
-value-at-requires c κs = search needs
-
-size-if-requires : tie.Need-size-if-requires
-size-if-requires c κs = search needs
-
-value-at-requires-2 : tie.Need-value-at-requires-2
-value-at-requires-2 c κs = search needs
-
-size-if-requires-2 : tie.Need-size-if-requires-2
-size-if-requires-2 c κs = search needs
-
-fields-size-requires-3 : tie.Need-fields-size-requires-3
-fields-size-requires-3 c κs = search needs
-
-add-t9 : tie.Need-add-t9
-add-t9 c = search needs
-
-add-t10 : tie.Need-add-t10
-add-t10 c = search needs
-
 returns : tie.Need-returns
 returns c =
     let at-value-at2 = c .before .before in
@@ -63,14 +36,5 @@ returns c =
 pub init-sizes-spec : {M : Type 1} → statement M
 init-sizes-spec =
     tie.close
-    (tie.spec
-    fields-size-requires
-    fields-size-requires-2
-    value-at-requires
-    size-if-requires
-    value-at-requires-2
-    size-if-requires-2
-    fields-size-requires-3
-    add-t9
-    add-t10
-    returns)
+    (tie.spec (λ c κs. search needs) (λ c κs. search needs) (λ c κs. search needs) (λ c κs. search needs) (λ c κs. search needs)
+    (λ c κs. search needs) (λ c κs. search needs) (λ c. search needs) (λ c. search needs) returns)

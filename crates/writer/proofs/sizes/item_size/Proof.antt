@@ -1,53 +1,23 @@
 -- Case by case, with the values of the slots, which exist (`Placed`).
 use mathlib.Core.Path.{subst, _∙_}
-use Rattle.outgoing.specs.Items.{Placed}
+use Rattle.schema.specs.Items.{Placed}
 use Rattle.writer.proofs.ItemCases.{size-unsigned, size-signed, size-bytes, size-map, size-end}
 use borrow.Author.Needs.{needs}
 use native.Mathlib.Omega.{arith}
 use Rattle.writer.proofs.sizes.item_size.Statement.{statement}
 use Rattle.writer.proofs.sizes.item_size.Tie as tie
 
-enum-known-item : tie.Need-enum-known-item
-enum-known-item c = search needs
-
 value-at-requires : tie.Need-value-at-requires
 value-at-requires c κs = subst Placed (c .before .item .given .1) (c .before .before .before .before .pre .0)
 
-number-size-requires : tie.Need-number-size-requires
-number-size-requires c κs = search needs
-
-enum-known-item-2 : tie.Need-enum-known-item-2
-enum-known-item-2 c = search needs
-
 value-at-requires-2 : tie.Need-value-at-requires-2
 value-at-requires-2 c κs = subst Placed (c .before .item2 .given .1) (c .before .before .before .before .pre .0)
-
-number-size-requires-2 : tie.Need-number-size-requires-2
-number-size-requires-2 c κs = search needs
-
-enum-known-item-3 : tie.Need-enum-known-item-3
-enum-known-item-3 c = search needs
 
 add-value-at : tie.Need-add-value-at
 add-value-at c = omega (arith, subst Placed (c .before .item3 .given .1) (c .before .before .before .before .pre .0))
 
 value-at-requires-3 : tie.Need-value-at-requires-3
 value-at-requires-3 c κs = subst Placed (c .before .item3 .given .1) (c .before .before .before .before .pre .0)
-
-some-size-requires : tie.Need-some-size-requires
-some-size-requires c κs = search needs
-
-enum-known-item-4 : tie.Need-enum-known-item-4
-enum-known-item-4 c = search needs
-
-cast-rows-size : tie.Need-cast-rows-size
-cast-rows-size c = search needs
-
-rows-size-requires : tie.Need-rows-size-requires
-rows-size-requires c κs = search needs
-
-enum-told : tie.Need-enum-told
-enum-told c = search needs
 
 returns : tie.Need-returns
 returns c = (
@@ -79,23 +49,6 @@ returns-5 c = (size-end _ _ (c .enum-told .given .1), omega arith)
 pub item-size-spec : {M : Type 1} → statement M
 item-size-spec =
     tie.close
-    (tie.spec
-    enum-known-item
-    value-at-requires
-    number-size-requires
-    enum-known-item-2
-    value-at-requires-2
-    number-size-requires-2
-    enum-known-item-3
-    add-value-at
-    value-at-requires-3
-    some-size-requires
-    enum-known-item-4
-    cast-rows-size
-    rows-size-requires
-    enum-told
-    returns
-    returns-2
-    returns-3
-    returns-4
-    returns-5)
+    (tie.spec (λ c. search needs) value-at-requires (λ c κs. search needs) (λ c. search needs) value-at-requires-2
+    (λ c κs. search needs) (λ c. search needs) add-value-at value-at-requires-3 (λ c κs. search needs) (λ c. search needs)
+    (λ c. search needs) (λ c κs. search needs) (λ c. search needs) returns returns-2 returns-3 returns-4 returns-5)

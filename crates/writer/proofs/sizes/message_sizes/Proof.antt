@@ -5,14 +5,8 @@ use native.Mathlib.Omega.{arith}
 use Rattle.writer.proofs.sizes.message_sizes.Statement.{statement}
 use Rattle.writer.proofs.sizes.message_sizes.Tie as tie
 
-init-sizes-requires : tie.Need-init-sizes-requires
-init-sizes-requires c κs = search needs
-
 returns : tie.Need-returns
 returns c = rw (eq-eqb (c .before .before .before .args .schema) 2 (c .before .if1 .taken)) (c .init-sizes .ensures)
-
-fields-size-requires : tie.Need-fields-size-requires
-fields-size-requires c κs = search needs
 
 returns-2 : tie.Need-returns-2
 returns-2 c = (
@@ -22,5 +16,4 @@ returns-2 c = (
 )
 
 pub message-sizes-spec : {M : Type 1} → statement M
-message-sizes-spec =
-    tie.close (tie.spec init-sizes-requires returns fields-size-requires returns-2)
+message-sizes-spec = tie.close (tie.spec (λ c κs. search needs) returns (λ c κs. search needs) returns-2)

@@ -15,15 +15,6 @@ use Rattle.writer.proofs.sizes.number_size.Tie as tie
 returns : tie.Need-returns
 returns c = (sym (ap length (number-out (integerOf (c .before .args .signed)) _ _ (c .if1 .taken))), omega arith)
 
-tag-size-requires : tie.Need-tag-size-requires
-tag-size-requires c κs = search needs
-
-widened-requires : tie.Need-widened-requires
-widened-requires c κs = search needs
-
-varint-len-requires : tie.Need-varint-len-requires
-varint-len-requires c κs = search needs
-
 add-result : tie.Need-add-result
 add-result c = omega (arith, c .varint-len .ensures, varint-bounds (c .before .widened .result))
 
@@ -45,5 +36,4 @@ returns-2 c =
 
 pub number-size-spec : {M : Type 1} → statement M
 number-size-spec =
-    tie.close
-    (tie.spec returns tag-size-requires widened-requires varint-len-requires add-result returns-2)
+    tie.close (tie.spec returns (λ c κs. search needs) (λ c κs. search needs) (λ c κs. search needs) add-result returns-2)

@@ -6,15 +6,6 @@ use native.Mathlib.Omega.{arith}
 use Rattle.writer.proofs.sizes.tag_size.Statement.{statement}
 use Rattle.writer.proofs.sizes.tag_size.Tie as tie
 
-mul-varint-len : tie.Need-mul-varint-len
-mul-varint-len c = search needs
-
-add-varint-len : tie.Need-add-varint-len
-add-varint-len c = search needs
-
-varint-len-requires : tie.Need-varint-len-requires
-varint-len-requires c κs = search needs
-
 returns : tie.Need-returns
 returns c = (
   c .varint-len .ensures,
@@ -23,4 +14,4 @@ returns c = (
 )
 
 pub tag-size-spec : {M : Type 1} → statement M
-tag-size-spec = tie.close (tie.spec mul-varint-len add-varint-len varint-len-requires returns)
+tag-size-spec = tie.close (tie.spec (λ c. search needs) (λ c. search needs) (λ c κs. search needs) returns)

@@ -7,12 +7,6 @@ use borrow.Author.Needs.{needs}
 use Rattle.writer.proofs.sizes.widened.Statement.{statement}
 use Rattle.writer.proofs.sizes.widened.Tie as tie
 
-low-i32-requires : tie.Need-low-i32-requires
-low-i32-requires c κs = search needs
-
-sign-extend-requires : tie.Need-sign-extend-requires
-sign-extend-requires c κs = search needs
-
 returns : tie.Need-returns
 unfolding wide
 returns c =
@@ -24,4 +18,4 @@ unfolding wide
 returns-2 c = rw (c .if1 .left)
 
 pub widened-spec : {M : Type 1} → statement M
-widened-spec = tie.close (tie.spec low-i32-requires sign-extend-requires returns returns-2)
+widened-spec = tie.close (tie.spec (λ c κs. search needs) (λ c κs. search needs) returns returns-2)

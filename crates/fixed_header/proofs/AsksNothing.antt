@@ -1,0 +1,17 @@
+-- Demand 1: no public entry of this crate asks anything of its caller. `tests/entries` compares the list with the sources.
+-- Assumes nothing.
+use mathlib.Core.Path.{refl}
+use Rattle.laws.specs.Asking.{AsksNothing}
+use Rattle.fixed_header.proofs as entry
+
+pub check-header : AsksNothing entry.check_header.signature (λ M. entry.check_header.spec)
+check-header M 𝓤 H A mem run κs a = (tt, refl)
+
+pub declared-size : AsksNothing entry.declared_size.signature (λ M. entry.declared_size.spec)
+declared-size M 𝓤 H A mem run κs a = (tt, refl)
+
+pub parse-header : AsksNothing entry.parse_header.signature (λ M. entry.parse_header.spec)
+parse-header M 𝓤 H A mem run κs a = (tt, refl)
+
+pub put-header : AsksNothing entry.put_header.signature (λ M. entry.put_header.spec)
+put-header M 𝓤 H A mem run κs a = (tt, refl)

@@ -1,0 +1,84 @@
+-- What the error code of a header says
+use Prim.Native.Nat.{ℕ, _≤_}
+use mathlib.Core.Path.{_≡_, refl}
+use mathlib.Core.Logic.{_⊎_, inl, inr}
+use mathlib.Core.Bool.{Bool, true, false, cond, _&&_}
+use mathlib.Core.List.{List}
+use native.Mathlib.Omega.{arith}
+use borrow.Author.Tests.{le-ltb, eq-eqb, eqb-true, leb-true}
+use lib.Dec.{eqb, leb}
+use lib.ListN.{length, take, getD}
+use lib.Seq.{length-take-le}
+use Rattle.laws.proofs.Booleans.{kept, both}
+use Rattle.fixed_header.specs.Header.{maxFrame, totalOf, headerSizeOf, headerError, declaredSize}
+use Rattle.fixed_header.specs.Header.{magicOk, dataTypeOk, streamTypeOk, totalOk, headerSizeOk}
+use Rattle.fixed_header.specs.Header.{reservedOk, typeFault, sizeFault, faultOf}
+
+-- 16 bytes are judged by the rules only
+pub sixteen : (h : List ℕ) → length h ≡ 16 → headerError h ≡ faultOf h
+unfolding headerError
+sixteen h l = rw (eq-eqb (length h) 16 l)
+
+pub first-sixteen : (s : List ℕ) → 16 ≤ length s → headerError (take 16 s) ≡ faultOf (take 16 s)
+first-sixteen s h = sixteen (take 16 s) (length-take-le 16 s h)
+
+-- a good header's total is 16 to 65,536
+pub good-total : (h : List ℕ) → headerError h ≡ 0 → (16 ≤ totalOf h) × (totalOf h ≤ maxFrame)
+unfolding headerError faultOf totalOk
+good-total h e =
+    let a = kept (eqb (length h) 16) 9 _ (omega arith) e in
+    let b = kept (magicOk (getD h 0 0) (getD h 1 0)) 3 _ (omega arith) (a .1) in
+    let c = kept (dataTypeOk (getD h 2 0)) 4 _ (omega arith) (b .1) in
+    let d = kept (streamTypeOk (getD h 2 0) (getD h 3 0)) 5 _ (omega arith) (c .1) in
+    let f = kept (leb 16 (totalOf h) && leb (totalOf h) maxFrame) 6 _ (omega arith) (d .1) in
+    let g = both (leb 16 (totalOf h)) (leb (totalOf h) maxFrame) (f .0) in
+    (leb-true _ _ (g .0), leb-true _ _ (g .1))
+
+-- the code of 16 bytes is 0, or 3 to 8
+abbrev pub Code : ℕ → Type 0
+Code n = (n ≡ 0) ⊎ ((3 ≤ n) × (n ≤ 8))
+
+rule : (ok : Bool) (code : ℕ) {later : ℕ} → 3 ≤ code → code ≤ 8 → Code later → Code (cond ok later code)
+rule true code l u p = p
+rule false code l u p = inr (l, u)
+
+pub fault-code : (h : List ℕ) → Code (faultOf h)
+unfolding faultOf
+fault-code h =
+    rule (magicOk (getD h 0 0) (getD h 1 0)) 3 (omega arith) (omega arith)
+    (rule (dataTypeOk (getD h 2 0)) 4 (omega arith) (omega arith)
+    (rule (streamTypeOk (getD h 2 0) (getD h 3 0)) 5 (omega arith) (omega arith)
+    (rule (totalOk (totalOf h)) 6 (omega arith) (omega arith)
+    (rule (headerSizeOk (getD h 2 0) (totalOf h) (headerSizeOf h)) 7 (omega arith) (omega arith)
+    (rule (reservedOk (getD h 14 0) (getD h 15 0)) 8 (omega arith) (omega arith)
+    (inl refl))))))
+
+-- a good header has 16 bytes
+pub good-length : (h : List ℕ) → headerError h ≡ 0 → length h ≡ 16
+unfolding headerError
+good-length h e = eqb-true _ _ (kept (eqb (length h) 16) 9 _ (omega arith) e .0)
+
+-- the size that 16 bytes and more declare
+pub declared : (s : List ℕ) → 16 ≤ length s → declaredSize s ≡ totalOf (take 16 s)
+unfolding declaredSize
+declared s h = rw (le-ltb _ _ h)
+
+-- ---- a part of the chain of rules, with what the later ones say
+-- with no number of its own it says what they say, and with one that number
+abbrev pub Passes : (ℕ → ℕ) → Type 0
+Passes f = (later : ℕ) → (f 0 ≡ 0 → f later ≡ later) × ((f 0 ≡ 0 → ⊥) → f later ≡ f 0)
+
+one-rule : (ok : Bool) (code : ℕ) {f : ℕ → ℕ} → (code ≡ 0 → ⊥) → Passes f → Passes (λ later. cond ok (f later) code)
+one-rule true code n p = p
+one-rule false code n p = λ later. (λ e. absurd (n e), λ e. refl)
+
+last-rule : Passes (λ later. later)
+last-rule later = (λ e. refl, λ e. absurd (e refl))
+
+pub types-pass : (a b d s : ℕ) → Passes (typeFault a b d s)
+types-pass a b d s =
+    one-rule (magicOk a b) 3 (omega arith)
+    (one-rule (dataTypeOk d) 4 (omega arith) (one-rule (streamTypeOk d s) 5 (omega arith) last-rule))
+
+pub sizes-pass : (d total size : ℕ) → Passes (sizeFault d total size)
+sizes-pass d total size = one-rule (totalOk total) 6 (omega arith) (one-rule (headerSizeOk d total size) 7 (omega arith) last-rule)

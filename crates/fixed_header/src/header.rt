@@ -1,0 +1,180 @@
+// The fields of the fixed header, and the rule of each.
+use crate::FixedHeader;
+use crate::FrameType;
+use crate::HEADER;
+use crate::MAX_FRAME;
+use refusals::BAD_DATA_TYPE;
+use refusals::BAD_HEADER_SIZE;
+use refusals::BAD_MAGIC;
+use refusals::BAD_RESERVED;
+use refusals::BAD_STREAM_TYPE;
+use refusals::BAD_TOTAL;
+ghost use mathlib.Core.Path.{_≡_};
+ghost use Prim.Native.Nat.{_+_, _≤_, _<_};
+ghost use lib.ListN.{length};
+ghost use Rattle.fixed_header.specs.Header.{be16Of, be32Of, totalOf, headerSizeOf, typeOf, headerIn};
+ghost use Rattle.fixed_header.specs.Header.{magicOk, streamTypeOk, totalOk, headerSizeOk, reservedOk, typeFault, sizeFault, faultOf};
+
+fn wide(b: u8) -> u32
+    ensures { λ r. ⌜ (r ≡ b) × (r < 256) ⌝ }
+{
+    b as u32
+}
+
+// The two bytes at a place, as a big-endian number.
+fn be16(h: &[u8], at: usize) -> u32
+    requires { ⌜ at + 2 ≤ length (now h) ⌝ }
+    ensures { λ r. ⌜ (r ≡ be16Of (now (h .entry)) at) × (r < 65536) ⌝ }
+{
+    wide(h[at]) * 256 + wide(h[at + 1])
+}
+
+// The four bytes at a place, as a big-endian number.
+fn be32(h: &[u8], at: usize) -> u32
+    requires { ⌜ at + 4 ≤ length (now h) ⌝ }
+    ensures { λ r. ⌜ r ≡ be32Of (now (h .entry)) at ⌝ }
+{
+    be16(h, at) * 65536 + be16(h, at + 2)
+}
+
+pub(crate) fn total(h: &[u8]) -> usize
+    requires { ⌜ 16 ≤ length (now h) ⌝ }
+    ensures { λ r. ⌜ r ≡ totalOf (now (h .entry)) ⌝ }
+{
+    be32(h, 4) as usize
+}
+
+fn header_size(h: &[u8]) -> usize
+    requires { ⌜ 16 ≤ length (now h) ⌝ }
+    ensures { λ r. ⌜ r ≡ headerSizeOf (now (h .entry)) ⌝ }
+{
+    be16(h, 8) as usize
+}
+
+fn frame_type(data_type: u8, stream_type: u8) -> FrameType
+    ensures { λ r. ⌜ r ≡ typeOf «data_type» «stream_type» ⌝ }
+{
+    if data_type == 0 {
+        return FrameType::Unary;
+    }
+    if stream_type == 1 {
+        return FrameType::Init;
+    }
+    if stream_type == 2 {
+        return FrameType::Data;
+    }
+    if stream_type == 3 {
+        return FrameType::Feedback;
+    }
+    FrameType::Close
+}
+
+fn magic_ok(first: u8, second: u8) -> bool
+    ensures { λ r. ⌜ r ≡ magicOk first second ⌝ }
+{
+    if first != 0x09 {
+        return false;
+    }
+    second == 0x30
+}
+
+fn stream_type_ok(data_type: u8, stream_type: u8) -> bool
+    ensures { λ r. ⌜ r ≡ streamTypeOk «data_type» «stream_type» ⌝ }
+{
+    if data_type == 0 {
+        return true;
+    }
+    if stream_type < 1 {
+        return false;
+    }
+    stream_type <= 4
+}
+
+fn total_ok(total: usize) -> bool
+    ensures { λ r. ⌜ r ≡ totalOk total ⌝ }
+{
+    if total < HEADER {
+        return false;
+    }
+    total <= MAX_FRAME
+}
+
+fn header_size_ok(data_type: u8, total: usize, size: usize) -> bool
+    requires { ⌜ 16 ≤ total ⌝ }
+    ensures { λ r. ⌜ r ≡ headerSizeOk «data_type» total size ⌝ }
+{
+    if data_type == 0 {
+        return size <= total - HEADER;
+    }
+    size == 0
+}
+
+fn reserved_ok(first: u8, second: u8) -> bool
+    ensures { λ r. ⌜ r ≡ reservedOk first second ⌝ }
+{
+    if first != 0 {
+        return false;
+    }
+    second == 0
+}
+
+// 3, 4 or 5: the first rule of the magic and the types that is broken, 0 for none.
+fn type_fault(first: u8, second: u8, data_type: u8, stream_type: u8) -> u32
+    ensures { λ r. ⌜ r ≡ typeFault first second «data_type» «stream_type» 0 ⌝ }
+{
+    if !magic_ok(first, second) {
+        return BAD_MAGIC;
+    }
+    if 1 < data_type {
+        return BAD_DATA_TYPE;
+    }
+    if !stream_type_ok(data_type, stream_type) {
+        return BAD_STREAM_TYPE;
+    }
+    0
+}
+
+// 6 or 7: the first rule of the sizes that is broken, 0 for none.
+fn size_fault(data_type: u8, total: usize, size: usize) -> u32
+    ensures { λ r. ⌜ r ≡ sizeFault «data_type» total size 0 ⌝ }
+{
+    if !total_ok(total) {
+        return BAD_TOTAL;
+    }
+    if !header_size_ok(data_type, total, size) {
+        return BAD_HEADER_SIZE;
+    }
+    0
+}
+
+// The error code of the first rule that 16 bytes break, 0 where they break none.
+pub(crate) fn fault(h: &[u8]) -> u32
+    requires { ⌜ 16 ≤ length (now h) ⌝ }
+    ensures { λ r. ⌜ r ≡ faultOf (now (h .entry)) ⌝ }
+{
+    let types = type_fault(h[0], h[1], h[2], h[3]);
+    if types != 0 {
+        return types;
+    }
+    let sizes = size_fault(h[2], total(h), header_size(h));
+    if sizes != 0 {
+        return sizes;
+    }
+    if !reserved_ok(h[14], h[15]) {
+        return BAD_RESERVED;
+    }
+    0
+}
+
+// What 16 bytes say.
+pub(crate) fn header_in(h: &[u8]) -> FixedHeader
+    requires { ⌜ 16 ≤ length (now h) ⌝ }
+    ensures { λ r. ⌜ r ≡ headerIn (now (h .entry)) ⌝ }
+{
+    FixedHeader {
+        frame_type: frame_type(h[2], h[3]),
+        total: total(h),
+        header_size: header_size(h),
+        id: be32(h, 10),
+    }
+}

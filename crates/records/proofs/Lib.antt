@@ -1,0 +1,6 @@
+-- For the proofs of this crate's functions
+mod Signed
+-- For whoever changes a schema
+pub mod AttachmentSlot
+-- Demand 1, of every public entry
+pub mod AsksNothing

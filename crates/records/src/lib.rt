@@ -1,0 +1,175 @@
+// The record of each of the six kinds, and the slots of its message: from slots to record and from record to slots.
+mod contents;
+mod records;
+
+use contents::close_content;
+use contents::init_content;
+use contents::request_content;
+use contents::response_content;
+use records::close_of;
+use records::init_of;
+use records::request_of;
+use records::response_of;
+use schema::Kind;
+ghost use mathlib.Core.Path.{_≡_};
+ghost use Rattle.records.specs.Records.{recordOf};
+ghost use Rattle.records.specs.Content.{kindOf, recordId, rowCount, slotsOf};
+
+// A byte field: where it starts in the frame, and how long it is; an empty one is 0, 0.
+pub struct Span {
+    pub start: u32,
+    pub len: u32,
+}
+
+pub struct Request {
+    pub id: u32,
+    pub version: u32,
+    pub call_type: u32,
+    pub request_id: u32,
+    pub timeout: u32,
+    pub caller: Span,
+    pub callee: Span,
+    pub func: Span,
+    pub message_type: u32,
+    pub content_type: u32,
+    pub content_encoding: u32,
+    pub attachment_size: u32,
+    pub rows: u32,
+}
+
+pub struct Response {
+    pub id: u32,
+    pub version: u32,
+    pub call_type: u32,
+    pub request_id: u32,
+    pub ret: i32,
+    pub func_ret: i32,
+    pub error_msg: Span,
+    pub message_type: u32,
+    pub content_type: u32,
+    pub content_encoding: u32,
+    pub attachment_size: u32,
+    pub rows: u32,
+}
+
+pub struct RequestMeta {
+    pub present: bool,
+    pub caller: Span,
+    pub callee: Span,
+    pub func: Span,
+    pub message_type: u32,
+}
+
+pub struct ResponseMeta {
+    pub present: bool,
+    pub ret: i32,
+    pub error_msg: Span,
+}
+
+pub struct Init {
+    pub id: u32,
+    pub request_meta: RequestMeta,
+    pub response_meta: ResponseMeta,
+    pub init_window_size: u32,
+    pub content_type: u32,
+    pub content_encoding: u32,
+    pub rows: u32,
+}
+
+pub struct Data {
+    pub id: u32,
+    pub rows: u32,
+}
+
+pub struct Feedback {
+    pub id: u32,
+    pub window_size_increment: u32,
+    pub rows: u32,
+}
+
+pub struct Close {
+    pub id: u32,
+    pub close_type: i32,
+    pub ret: i32,
+    pub msg: Span,
+    pub message_type: u32,
+    pub func_ret: i32,
+    pub rows: u32,
+}
+
+pub enum Record {
+    Request(Request),
+    Response(Response),
+    Init(Init),
+    Data(Data),
+    Feedback(Feedback),
+    Close(Close),
+}
+
+// What the writer takes from a record: kind, id, the fields by the order of the kind's schema, and the row count.
+pub struct Content {
+    pub kind: Kind,
+    pub id: u32,
+    pub values: [u32; 16],
+    pub rows: u32,
+}
+
+// The record of a message whose slots have these values, with that many rows.
+pub fn record_of(kind: Kind, id: u32, v: [u32; 16], rows: u32) -> Record
+    ensures { λ r. ⌜ r ≡ recordOf kind id v rows ⌝ }
+{
+    match kind {
+        Kind::Request => request_of(id, v, rows),
+        Kind::Response => response_of(id, v, rows),
+        Kind::Init => init_of(id, v, rows),
+        Kind::Data => Record::Data(Data { id, rows }),
+        Kind::Feedback => Record::Feedback(Feedback {
+            id,
+            window_size_increment: v[0],
+            rows,
+        }),
+        Kind::Close => close_of(id, v, rows),
+    }
+}
+
+// The content of a record.
+pub fn content_of(record: Record) -> Content
+    ensures { λ r. ⌜ (r .kind ≡ kindOf «record») × (r .id ≡ recordId «record») × (r .values ≡ slotsOf «record»)
+        × (r .rows ≡ rowCount «record») ⌝ }
+{
+    match record {
+        Record::Request(r) => request_content(r),
+        Record::Response(r) => response_content(r),
+        Record::Init(r) => init_content(r),
+        Record::Data(r) => Content {
+            kind: Kind::Data,
+            id: r.id,
+            values: [0; 16],
+            rows: r.rows,
+        },
+        Record::Feedback(r) => Content {
+            kind: Kind::Feedback,
+            id: r.id,
+            values: [
+                r.window_size_increment,
+                0,
+                0,
+                0,
+                0,
+                0,
+                0,
+                0,
+                0,
+                0,
+                0,
+                0,
+                0,
+                0,
+                0,
+                0,
+            ],
+            rows: r.rows,
+        },
+        Record::Close(r) => close_content(r),
+    }
+}

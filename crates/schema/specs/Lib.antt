@@ -1,0 +1,6 @@
+-- The messages of source document 000, and the numbers by which code names them
+pub mod Schema
+pub mod Kinds
+-- Reading and writing by them
+pub mod Targets
+pub mod Items

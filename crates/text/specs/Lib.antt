@@ -1,0 +1,3 @@
+-- Text in a lent buffer
+pub mod Numbers
+pub mod Added

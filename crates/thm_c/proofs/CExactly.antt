@@ -1,0 +1,178 @@
+-- For a user in C: what each exported function but those of the queue returns.
+--
+-- Promised, of any call that gave what its contract ensures (`proofs/Contracts`): it returns a number exactly when the number's
+-- ground holds and none before it in document 01's order does; it returns 0 exactly when none holds; and what is in all that was lent is
+-- said for each case. `c-read` and `c-write` say it of the six readers and of the six writers, by the kind. The queue's functions have the
+-- same theorem in `thm_queue` (`c-add`, `c-take`, `c-cancel`).
+-- Not promised: what the bytes of a written frame say, which `c-read-back` does.
+-- Ruled out: a function that returns 0 for a frame that it did not read or write, one that returns a later ground's number first, and a
+-- number that document 01 does not give to that function.
+-- Assumes nothing.
+use Prim.Native.Nat.{ℕ, _<_}
+use mathlib.Core.Path.{_≡_, refl, sym, subst}
+use mathlib.Core.Logic.{_⊎_, inl, inr}
+use mathlib.Core.List.{List, [], _∷_, _++_}
+use native.Mathlib.Omega.{arith}
+use lib.ListN.{length, take}
+use Rattle.fixed_header.specs.Header.{headerError, totalOf, parsed}
+use Rattle.fixed_header.specs.declared.Parsed.{Parsed}
+use Rattle.fixed_header.specs.declared.Parsed.the-variants as headers
+use Rattle.decoder.specs.Fields.{Result, ok, refused}
+use Rattle.decoder.proofs.Results.{Sound, message-sound}
+use Rattle.message.specs.Frames.{headerOf, readFrame}
+use Rattle.deframer.specs.Deframe.{deframed, ended}
+use Rattle.deframer.specs.declared.Progress.{Progress}
+use Rattle.deframer.specs.declared.Progress.the-variants as progress
+use Rattle.deframer.specs.declared.End.{End}
+use Rattle.deframer.specs.declared.End.the-variants as end
+use Rattle.schema.specs.Kinds.{schemaOf}
+use Rattle.schema.specs.declared.Kind.{Kind}
+use Rattle.records.specs.declared.Record.{Record}
+use Rattle.message.specs.declared.Answer.{Answer}
+use Rattle.message.specs.declared.Answer.the-variants as answers
+use Rattle.writer.specs.Writing.{errorOf, written}
+use Rattle.writer.specs.declared.Encoded.{Encoded}
+use Rattle.writer.specs.declared.Encoded.the-variants as encoded
+use Rattle.bekurapi.specs.Answers.{parsedError, deframerOf, progressError, endError, answerError}
+use Rattle.bekurapi.specs.Numbers.{recordFrom}
+use Rattle.thm_c.specs.Header.{CParsed, CChecks, CParses}
+use Rattle.thm_c.specs.Readings.{CRead, CReads}
+use Rattle.thm_c.specs.Calls.{CDeframed, CFinished, CDeframes, CFinishes}
+use Rattle.thm_c.specs.RoundTrip.{CWritten, CWrites}
+use Rattle.thm_round_trip.specs.Refusals.{encodedSays, writeEntry}
+use Rattle.thm_round_trip.proofs.Exactly.{written-exactly}
+use Rattle.laws.proofs.Booleans.{clash}
+use Rattle.refusals.specs.Grounds.{Ground, ground, First, refuses, numberOf, Entry, retold, Exactly}
+use Rattle.refusals.proofs.Order.{Numbered, first-number, first-split, decided, end, unless-error, outcome-of, exactly, retold-exactly}
+use Rattle.thm_refusals.specs.Header.{faults, headerGrounds, headerCheck}
+use Rattle.thm_refusals.specs.Fields.{resultSays}
+use Rattle.thm_refusals.specs.Reader.{OfKind, fieldsRead, fieldGrounds, AttachmentLarger, answerSays, readGrounds, readEntry}
+use Rattle.thm_refusals.specs.Deframer.{progressSays, deframeEntry, endSays, finishEntry}
+use Rattle.thm_refusals.proofs.Header.{faults-numbered, header-numbered, header-exactly, header-check-exactly}
+use Rattle.thm_refusals.proofs.Fields.{message-decides}
+use Rattle.thm_refusals.proofs.Reader.{read-exactly}
+use Rattle.thm_refusals.proofs.Deframer.{deframe-exactly, finish-exactly}
+use Rattle.thm_c.specs.Entries.{parsedC, parsedSays, parseEntry, cParseEntry, deframedC, cDeframeEntry}
+use Rattle.thm_c.specs.Entries.{finishedC, cFinishEntry, readC, cReadEntry, writtenC, cWriteEntry}
+use Rattle.thm_c.proofs.Given.{all-parsed, all-deframed, all-finished, all-read, all-written}
+
+-- an entry whose answers C has as numbers
+reported : {A B : Type 0} (e : Entry A) (f : A → B) (code : B → ℕ) → ((a : A) → code (f a) ≡ numberOf (e .says a))
+    → ((n : ℕ) → First (e .grounds) n → 0 < n) → (a : A) → Exactly e a → (b : B) → b ≡ f a
+    → Exactly (retold f code e) b
+reported e f code told positive a is b same = subst (Exactly (retold f code e)) (sym same) (retold-exactly e f code told positive a is)
+
+-- ---- `trpc_header_check`
+pub c-check : (h : List ℕ) (code : ℕ) → CChecks h code → Exactly (headerCheck h) code
+c-check h code is = header-check-exactly h code is
+
+-- ---- `trpc_header_parse`
+parse-exactly : (h : List ℕ) → Exactly (parseEntry h) (parsed h)
+unfolding parsed
+parse-exactly h =
+    exactly (parseEntry h) (parsed h) (λ none. refl) (λ n f. refl)
+    (unless-error (headerGrounds h) (headerError h) (header-numbered h) (outcome-of (headerCheck h) (headerError h) (header-exactly h)) end)
+
+parsed-number : (p : Parsed) → parsedError p ≡ numberOf (parsedSays p)
+parsed-number (headers.Good h) = refl
+parsed-number (headers.Refused code) = refl
+
+pub c-parse : (h : List ℕ) (d : CParsed) → CParses h d → Exactly (cParseEntry h) d
+c-parse h d is =
+    reported (parseEntry h) parsedC (λ d. d .code) parsed-number (first-number (headerGrounds h) (header-numbered h)) (parsed h)
+    (parse-exactly h) d (all-parsed h d is)
+
+-- ---- `trpc_deframe`
+progress-number : (p : Progress) → progressError p ≡ numberOf (progressSays p)
+progress-number (progress.Frame size) = refl
+progress-number progress.NeedMore = refl
+progress-number (progress.Refused code) = refl
+
+pub c-deframe : (held error : ℕ) (buffer piece : List ℕ) (d : CDeframed) → CDeframes held error buffer piece d
+    → Exactly (cDeframeEntry held error buffer piece) d
+c-deframe held error buffer piece d is =
+    reported (deframeEntry (deframerOf held error) buffer piece) deframedC (λ d. d .code) (λ o. progress-number (o .step .progress))
+    (first-number (cDeframeEntry held error buffer piece .grounds) numbers) (deframed (deframerOf held error) buffer piece)
+    (deframe-exactly (deframerOf held error) buffer piece) d (all-deframed held error buffer piece d is)
+  where
+    numbers : Numbered (deframeEntry (deframerOf held error) buffer piece .grounds)
+    numbers = search arith depth 30
+
+-- ---- `trpc_finish`
+end-number : (e : End) → endError e ≡ numberOf (endSays e)
+end-number end.Clean = refl
+end-number (end.Short count) = refl
+end-number (end.Refused code) = refl
+
+pub c-finish : (held error : ℕ) (buffer : List ℕ) (f : CFinished) → CFinishes held error buffer f
+    → Exactly (cFinishEntry held error buffer) f
+c-finish held error buffer f finishes =
+    reported (finishEntry (deframerOf held error) buffer) finishedC (λ f. f .code) end-number
+    (first-number (cFinishEntry held error buffer .grounds) numbers) (ended (deframerOf held error) buffer)
+    (finish-exactly (deframerOf held error) buffer) f (all-finished held error buffer f finishes)
+  where
+    numbers : Numbered (finishEntry (deframerOf held error) buffer .grounds)
+    numbers = search arith depth 30
+
+-- ---- the six writers
+encoded-number : (e : Encoded) → errorOf e ≡ numberOf (encodedSays e)
+unfolding errorOf
+encoded-number (encoded.Frame size) = refl
+encoded-number (encoded.Refused code) = refl
+
+module _ (kind : Kind) (numbers source rows body output : List ℕ) where
+  abbrev r : Record
+  r = recordFrom kind numbers
+
+  write-numbers : Numbered (writeEntry r source rows body output .grounds)
+  write-numbers = search arith depth 20
+
+  pub c-write : (w : CWritten) → CWrites kind numbers source rows body output w
+      → Exactly (cWriteEntry kind numbers source rows body output) w
+  c-write w writes =
+      reported (writeEntry r source rows body output) writtenC (λ w. w .code) (λ w. encoded-number (w .answer))
+      (first-number (writeEntry r source rows body output .grounds) write-numbers) (written r source rows body output)
+      (written-exactly r source rows body output) w (all-written kind numbers source rows body output w writes)
+
+-- ---- the six readers
+answer-number : (a : Answer) → answerError a ≡ numberOf (answerSays a)
+answer-number (answers.Read r) = refl
+answer-number (answers.Refused code) = refl
+
+module _ (kind : Kind) (f lent : List ℕ) where
+  abbrev attachment : Ground
+  attachment = ground 15 (AttachmentLarger kind f (fieldsRead kind f))
+
+  -- no number of a ground is 0: those of the fields
+  by-fields : (v : Result) → Sound v → (n : ℕ) → resultSays v ≡ refuses n → 0 < n
+  by-fields (ok st) s n e = clash cc
+  by-fields (refused code) s n e = let same : code ≡ n = cc in omega (arith, s)
+
+  fields-positive : (n : ℕ) → First (fieldGrounds kind f) n → 0 < n
+  fields-positive n first =
+      by-fields (fieldsRead kind f) (message-sound f (schemaOf kind) 16 (headerOf kind f)) n
+      (decided (fieldGrounds kind f) (message-decides f (schemaOf kind) 16 (headerOf kind f)) n first)
+
+  last : (n : ℕ) → First (fieldGrounds kind f) n ⊎ First (attachment ∷ []) n → 0 < n
+  last n (inl first) = fields-positive n first
+  last n (inr (inl g)) = omega (arith, g .1)
+  last n (inr (inr g)) = absurd (g .1)
+
+  abbrev later : List Ground
+  later = ground 9 (length f ≡ totalOf f → ⊥) ∷ ground 9 (OfKind kind f → ⊥) ∷ (fieldGrounds kind f ++ attachment ∷ [])
+
+  middle : (n : ℕ) → First (faults (take 16 f)) n ⊎ First later n → 0 < n
+  middle n (inl first) = first-number (faults (take 16 f)) (faults-numbered (take 16 f)) n first
+  middle n (inr (inl g)) = omega (arith, g .1)
+  middle n (inr (inr (_, inl g))) = omega (arith, g .1)
+  middle n (inr (inr (_, inr g))) = last n (first-split (fieldGrounds kind f) (attachment ∷ []) n (g .1))
+
+  positive : (n : ℕ) → First (readGrounds kind f lent) n → 0 < n
+  positive n (inl g) = omega (arith, g .1)
+  positive n (inr (_, inl g)) = omega (arith, g .1)
+  positive n (inr (_, inr g)) = middle n (first-split (faults (take 16 f)) later n (g .1))
+
+  pub c-read : (x : CRead) → CReads kind f lent x → Exactly (cReadEntry kind f lent) x
+  c-read x reads =
+      reported (readEntry kind f lent) (readC f) (λ x. x .code) (λ x. answer-number (x .answer)) positive (readFrame kind f lent)
+      (read-exactly kind f lent) x (all-read kind f lent x reads)
