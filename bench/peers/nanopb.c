@@ -1,6 +1,6 @@
 /*
  * nanopb as a peer: tests/protoc/trpc.proto with the sizes of trpc.options, whole unary frames. A message is a struct of
- * fixed size that holds a copy of every string; a map is an array of entries, in which a key may stand twice.
+ * fixed size that holds a copy of every string; a map is an array of entries, in which a key may be twice.
  *
  * `kind` is 0 for a request and 1 for a response.
  */

@@ -32,7 +32,7 @@ pub fn check() {
 fn damage(bytes: &mut [u8], random: &mut Random) {
     for _ in 0..random.between(1, 2) {
         let at = random.between(0, bytes.len() as u64 - 1) as usize;
-        bytes[at] = random.next() as u8;
+        bytes[at] = random.number() as u8;
     }
 }
 
@@ -60,7 +60,7 @@ fn check_written<M: Message>(i: &Input<M>) {
 }
 
 /// The peers write the same frame; protobuf C++ has the entries of a map in no order.
-#[allow(unused_variables)]
+#[allow(unused_variables, reason = "nothing uses it where no peer is installed")]
 fn check_peers<M: Message>(i: &Input<M>) {
     #[cfg(protobuf)]
     {
@@ -150,7 +150,7 @@ fn check_queue() {
         }
         assert_eq!(ours, plain);
         if call % 200 == 0 {
-            ours.jobs = std::array::from_fn(|_| Job { zero: random.next() as u32, ..any_job(&mut random) });
+            ours.jobs = std::array::from_fn(|_| Job { zero: random.number() as u32, ..any_job(&mut random) });
             ours.count = random.between(0, CAPACITY as u64 / 4) as usize;
             plain = ours.clone();
         }
@@ -163,6 +163,6 @@ fn any_job(random: &mut Random) -> Job {
         request: random.between(0, 60) as u32,
         timeout: random.between(0, 50) as u32,
         zero: 0,
-        arrival: if random.between(0, 99) == 0 { random.next() } else { random.between(0, 50) },
+        arrival: if random.between(0, 99) == 0 { random.number() } else { random.between(0, 50) },
     }
 }

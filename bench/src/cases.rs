@@ -63,7 +63,7 @@ fn header_check() -> Case {
 
 /// What a record says, as one number that each reader can tell: the peers' sources have the same sum.
 trait Found: Message {
-    /// Where the numbers of the sum stand in a record's 24.
+    /// Where the numbers of the sum are in a record's 24.
     const PLACES: &'static [usize];
 
     fn found(&self) -> u64;
@@ -131,7 +131,7 @@ fn reading<M: Found + 'static>(name: &str, inputs: Rc<Vec<Input<M>>>) -> Case {
     reading_peers::<M>(case, &inputs)
 }
 
-#[allow(unused_mut, unused_variables)]
+#[allow(unused_mut, unused_variables, reason = "nothing uses them where no peer is installed")]
 fn reading_peers<M: Found + 'static>(mut case: Case, inputs: &Rc<Vec<Input<M>>>) -> Case {
     #[cfg(protobuf)]
     {
@@ -176,7 +176,7 @@ fn writing<M: Found + 'static>(name: &str, inputs: Rc<Vec<Input<M>>>) -> Case {
 }
 
 /// A reused message was filled before, by reading the frame.
-#[allow(unused_mut, unused_variables)]
+#[allow(unused_mut, unused_variables, reason = "nothing uses them where no peer is installed")]
 fn writing_peers<M: Found + 'static>(mut case: Case, inputs: &Rc<Vec<Input<M>>>) -> Case {
     #[cfg(protobuf)]
     {

@@ -39,10 +39,10 @@ fn frame(random: &mut Random, total: u64) -> Vec<u8> {
     let mut bytes = vec![0x09, 0x30, !unary as u8, if unary { 0 } else { random.between(1, 4) as u8 }];
     bytes.extend((total as u32).to_be_bytes());
     bytes.extend(header_size.to_be_bytes());
-    bytes.extend((random.next() as u32).to_be_bytes());
+    bytes.extend((random.number() as u32).to_be_bytes());
     bytes.extend([0, 0]);
     while (bytes.len() as u64) < total {
-        bytes.extend(random.next().to_le_bytes());
+        bytes.extend(random.number().to_le_bytes());
     }
     bytes.truncate(total as usize);
     bytes

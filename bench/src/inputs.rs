@@ -40,7 +40,7 @@ impl Source {
         place
     }
 
-    /// Letters behind a prefix.
+    /// Letters after a prefix.
     fn name(&mut self, prefix: &str, low: u64, high: u64) -> Span {
         let length = self.random.between(low, high);
         let letters = self.random.text(length);
@@ -54,7 +54,7 @@ impl Source {
     }
 
     fn input<M: Message>(mut self, message: M, body: u64) -> Input<M> {
-        let record = Record { id: self.random.next() as u32, row_count: self.rows.len() / 4, message };
+        let record = Record { id: self.random.number() as u32, row_count: self.rows.len() / 4, message };
         let mut numbers = [0; RECORD_NUMBERS];
         numbers[0] = record.id;
         numbers[1] = record.row_count as u32;

@@ -1,4 +1,4 @@
-//! What `bench/run` measures, and what stands beside it.
+//! What `bench/run` measures, and what it is compared with.
 
 pub mod agreement;
 pub mod cases;

@@ -1,5 +1,7 @@
 //! The library, through its C interface (include/bekurapi.h).
 
+#![allow(clippy::undocumented_unsafe_blocks, reason = "one comment below is for every call")]
+
 use crate::plain::deframer::{State, Step};
 use crate::plain::messages::{REQUEST, RESPONSE};
 use crate::plain::queue::{Job, Queue};

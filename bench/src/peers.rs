@@ -1,5 +1,7 @@
 //! The peers that are no Rust: protobuf C++ and nanopb (bench/peers). Each reads and writes whole unary frames.
 
+#![allow(clippy::undocumented_unsafe_blocks, reason = "one comment below is for every call")]
+
 /// A peer's message object, a request or a response by the kind's number.
 #[cfg(any(protobuf, nanopb))]
 #[derive(Clone, Copy)]

@@ -123,7 +123,7 @@ const RIGHT: f64 = 930.0;
 const TOP: f64 = 70.0;
 const BAR: f64 = 16.0;
 const HEADING: f64 = 22.0;
-/// White around words that stand on lines.
+/// White around words that are on lines.
 const HALO: &str = r##"stroke="#fff" stroke-width="3" paint-order="stroke""##;
 const TICKS: [f64; 13] = [0.01, 0.02, 0.05, 0.1, 0.2, 0.5, 1.0, 2.0, 5.0, 10.0, 20.0, 50.0, 100.0];
 

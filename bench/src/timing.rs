@@ -16,7 +16,7 @@ pub struct Contender {
 pub struct Case {
     pub group: &'static str,
     pub name: String,
-    /// How many operations a pass has, and how many bytes go through, where that is to be told.
+    /// How many operations a pass has, and how many bytes go through, where that is to be reported.
     pub operations: usize,
     pub bytes: usize,
     pub contenders: Vec<Contender>,

@@ -33,7 +33,7 @@ DAMAGE = {
 
 
 def nested_in(kind, content):
-    """Damage within a part of the message, with good fields before and behind the part."""
+    """Damage within a part of the message, with good fields before and after the part."""
     if kind == "init":
         entry = bytes_field(1, bytes_field(5, bytes_field(1, b"k") + content))
         yield "request_meta", bytes_field(1, bytes_field(1, b"caller") + content) + number_field(3, 1)
@@ -161,7 +161,7 @@ def damaged_examples():
 
 
 def two_grounds():
-    """From left to right: the ground that comes first is told."""
+    """From left to right: the ground that comes first is reported."""
     entry = bytes_field(9, bytes_field(1, b"k") + b"\x80")
     yield Case("an entry's varint before a tag behind it", "request", entry + b"\x00")
     yield Case("a tag before an entry's varint", "request", b"\x00" + entry)

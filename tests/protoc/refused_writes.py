@@ -1,4 +1,4 @@
-"""Records that the writer has to refuse: each error code on each ground, alone and two at once."""
+"""Records that the writer has to refuse: each error code on each ground, by itself and two at once."""
 
 from itertools import combinations
 
@@ -12,7 +12,7 @@ TOP = 2**32 - 1
 
 
 def simple(kind, label="", rows=3, **rest):
-    """A call that is good as it stands."""
+    """A call that is good as it is."""
     values = {"data": {}, "feedback": {"window_size_increment": 300}, "close": {"ret": -1, "msg": b"bay 12"}}.get(kind)
     if values is None:
         values = {"response_meta": {"ret": 1, "error_msg": b"no"}} if kind == "init" else {"message_type": 5}
@@ -267,7 +267,7 @@ GROUNDS = (
 
 
 def several_grounds():
-    """All pairs of grounds, and all grounds at once; the first in the order is told. The later grounds are made first,
+    """All pairs of grounds, and all grounds at once; the first in the order is reported. The later grounds are made first,
     as the earlier ones change the row numbers."""
     for kind in KINDS:
         here = [(make, code) for make, code, kinds in GROUNDS if kind in kinds]

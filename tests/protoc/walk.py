@@ -138,7 +138,7 @@ def protoc(arguments, given):
 
 
 def varint(value, size=0):
-    """`value` in the fewest bytes, or in `size` bytes with zero groups behind."""
+    """`value` in the fewest bytes, or in `size` bytes with zero groups after it."""
     groups = [value & 127]
     while value > 127 or len(groups) < size:
         value >>= 7

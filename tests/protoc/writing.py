@@ -43,7 +43,7 @@ class Call:
 
 
 def laid_out(label, kind, values, gap=b"-", backwards=False, **rest):
-    """The call that writes `values`, which are as protoc takes them. Each content stands in the source behind a gap."""
+    """The call that writes `values`, which are as protoc takes them. Each content is in the source after a gap."""
     source, fields, numbers = b"", {}, []
 
     def place(content):

@@ -7,7 +7,7 @@ from whole_frames import NAMES, SIZES, WITH_MAP, entries, full, leaves, mapped, 
 from writing import MOST_BYTES, Call, laid_out, message
 
 BORDERS = (127, 128, 16383, 16384, 2097151, 2097152, 268435455, 268435456)  # where a varint takes a byte more
-PATTERN = bytes(range(251))  # of a prime length, so that a place is known by what stands there
+PATTERN = bytes(range(251))  # of a prime length, so that a place is known by what is there
 
 
 def repeated(size):
@@ -136,7 +136,7 @@ def metas():
 
 
 def places():
-    """Where contents may stand in the source."""
+    """Where contents may be in the source."""
     source = b"trpc.packing.cell"
     end = len(source)
     for kind in MESSAGES:

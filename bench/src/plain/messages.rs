@@ -57,7 +57,7 @@ pub struct Response {
     pub attachment_size: u32,
 }
 
-/// A record: a message with what is said beside it. The rows of its map stand in a slice of their own.
+/// A record: a message with what is said beside it. The rows of its map are in a slice of their own.
 #[derive(Clone, Copy, Default, Debug, PartialEq, Eq)]
 pub struct Record<M> {
     pub id: u32,

@@ -1,6 +1,7 @@
 use std::fmt;
 
-/// An error, with the number and the words of document 01's table of refusals.
+/// An error. docs/PROTOCOL.md, "Errors", has all of them in one table: the ground of each, its place in the order,
+/// what it leaves and what to do about it. [`Error::number`] and [`Error::words`] give the number and the words.
 ///
 /// ```
 /// use bekurapi::Error;
@@ -17,9 +18,9 @@ use std::fmt;
 #[non_exhaustive]
 #[repr(u32)]
 pub enum Error {
-    /// Deframer, end: buffer under 65,536 bytes.
+    /// Deframer, end: the buffer is under 65,536 bytes.
     BufferTooSmall = 1,
-    /// Deframer, end: state not known.
+    /// Deframer, end: the state is not known.
     UnknownState = 2,
     /// Header: magic. Bytes 1-2 are not 09 30.
     Magic = 3,
@@ -33,43 +34,43 @@ pub enum Error {
     HeaderSize = 7,
     /// Header: reserved. Bytes 15-16 are not both 0.
     Reserved = 8,
-    /// Reader: the length isn't the total, or the wrong kind of frame. Header check: not 16 bytes.
+    /// Reader: the length isn't the total, or it is the wrong kind of frame. Header check: there are not 16 bytes.
     LengthOrKind = 9,
-    /// Reader: varint bad or cut off.
+    /// Reader: a varint is bad or cut off.
     Varint = 10,
-    /// Reader: tag bad; group end stray or of another number.
+    /// Reader: a tag is bad, or a group's end is stray or of another number.
     Tag = 11,
     /// Reader: a length, fixed value or open group passes the end of its part.
     PastEnd = 12,
-    /// Reader: 33rd nested group.
+    /// Reader: the 33rd nested group.
     GroupDepth = 13,
-    /// Reader: 65th map entry, repeats counted.
+    /// Reader: the 65th map entry, repeats counted.
     MapEntries = 14,
-    /// Reader, writer: attachment larger than body. Writer: a body with Init, Feedback or Close.
+    /// Reader, writer: the attachment is larger than the body. Writer: a body with Init, Feedback or Close.
     Attachment = 15,
-    /// Reader: row slice under 256 numbers.
+    /// Reader: under 256 row numbers are lent.
     RowSlice = 16,
-    /// Writer: a start plus length past the end of the source bytes.
+    /// Writer: a start plus length passes the end of the source bytes.
     Span = 17,
     /// Writer: over 64 rows, or equal keys.
     Rows = 18,
-    /// Writer: frame over 65,536.
+    /// Writer: the frame is over 65,536 bytes.
     FrameSize = 19,
-    /// Writer: header message over 65,535.
+    /// Writer: the header message is over 65,535 bytes. It never comes, since [`Error::FrameSize`] comes first.
     HeaderMessage = 20,
     /// Add: 64 jobs wait.
     QueueFull = 21,
-    /// Add: arrival above 2^62.
+    /// Add: the arrival is above 2^62.
     Arrival = 22,
     /// Take: nothing waits.
     QueueEmpty = 23,
-    /// Queue: count over 64, a waiting pair twice, or a waiting arrival above 2^62.
+    /// Queue: the count is over 64, a waiting pair is there twice, or a waiting arrival is above 2^62.
     QueueInvalid = 24,
     /// Add: that pair waits already.
     Duplicate = 25,
     /// Cancel: that pair doesn't wait.
     Absent = 26,
-    /// Writer: output shorter than the frame.
+    /// Writer: the output is shorter than the frame.
     OutputTooShort = 27,
 }
 
@@ -111,7 +112,7 @@ impl Error {
         Error::OutputTooShort,
     ];
 
-    /// The number in document 01's table.
+    /// The number of the error, as in docs/PROTOCOL.md.
     ///
     /// ```
     /// assert_eq!(bekurapi::Error::Varint.number(), 10);
@@ -120,7 +121,7 @@ impl Error {
         self as u32
     }
 
-    /// The error with a number. 0 is none, and so is a number that document 01 does not have.
+    /// The error with a number. 0 is none, and so is a number above 27.
     ///
     /// ```
     /// use bekurapi::Error;
@@ -132,7 +133,7 @@ impl Error {
         Error::ALL.into_iter().find(|error| error.number() == number)
     }
 
-    /// Document 01's words for the error.
+    /// The words for the error.
     ///
     /// ```
     /// assert_eq!(bekurapi::Error::QueueEmpty.words(), "nothing waits");

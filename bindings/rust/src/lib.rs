@@ -1,6 +1,8 @@
 //! Safe Rust bindings of Bekurapi, a verified library for tRPC frames: it cuts a stream into frames, reads and writes their
 //! messages, and keeps a queue of waiting jobs.
 //!
+//! docs/PROTOCOL.md of the repository says what a frame is, field by field, and what each error means.
+//!
 //! Every answer is that of the library, whose contracts are proved of its source. The one exception is a record with byte
 //! fields of over 4 GiB in all, which these bindings refuse themselves, in the library's order. They add Rust's types: they
 //! lend the buffers as the C interface wants them lent, and give byte fields as parts of the frame. Each `unsafe` block is one
@@ -34,6 +36,8 @@
 //! assert_eq!(read(Kind::Response, &frame)?.body, b"packed");
 //! # Ok::<(), bekurapi::Error>(())
 //! ```
+
+#![deny(missing_docs)]
 
 mod deframer;
 mod error;

@@ -81,7 +81,7 @@ impl Record<'_> {
 /// # Ok::<(), bekurapi::Error>(())
 /// ```
 #[derive(Clone, Debug, Default, PartialEq, Eq)]
-#[allow(missing_docs)] // the members bear the protocol's own names
+#[allow(missing_docs, reason = "the members have the protocol's own names")]
 pub struct Request<'a> {
     pub version: u32,
     pub call_type: u32,
@@ -111,7 +111,7 @@ pub struct Request<'a> {
 /// # Ok::<(), bekurapi::Error>(())
 /// ```
 #[derive(Clone, Debug, Default, PartialEq, Eq)]
-#[allow(missing_docs)] // the members bear the protocol's own names
+#[allow(missing_docs, reason = "the members have the protocol's own names")]
 pub struct Response<'a> {
     pub version: u32,
     pub call_type: u32,
@@ -140,7 +140,7 @@ pub struct Response<'a> {
 /// # Ok::<(), bekurapi::Error>(())
 /// ```
 #[derive(Clone, Debug, Default, PartialEq, Eq)]
-#[allow(missing_docs)] // the members bear the protocol's own names
+#[allow(missing_docs, reason = "the members have the protocol's own names")]
 pub struct Init<'a> {
     pub request_meta: Option<RequestMeta<'a>>,
     pub response_meta: Option<ResponseMeta<'a>>,
@@ -158,7 +158,7 @@ pub struct Init<'a> {
 /// assert_eq!(meta.trans_info.len(), 1);
 /// ```
 #[derive(Clone, Debug, Default, PartialEq, Eq)]
-#[allow(missing_docs)] // the members bear the protocol's own names
+#[allow(missing_docs, reason = "the members have the protocol's own names")]
 pub struct RequestMeta<'a> {
     pub caller: &'a [u8],
     pub callee: &'a [u8],
@@ -178,7 +178,7 @@ pub struct RequestMeta<'a> {
 /// # Ok::<(), bekurapi::Error>(())
 /// ```
 #[derive(Clone, Debug, Default, PartialEq, Eq)]
-#[allow(missing_docs)] // the members bear the protocol's own names
+#[allow(missing_docs, reason = "the members have the protocol's own names")]
 pub struct ResponseMeta<'a> {
     pub ret: i32,
     pub error_msg: &'a [u8],
@@ -194,7 +194,7 @@ pub struct ResponseMeta<'a> {
 /// # Ok::<(), bekurapi::Error>(())
 /// ```
 #[derive(Clone, Copy, Debug, Default, PartialEq, Eq)]
-#[allow(missing_docs)] // the members bear the protocol's own names
+#[allow(missing_docs, reason = "the members have the protocol's own names")]
 pub struct Feedback {
     pub window_size_increment: u32,
 }
@@ -210,7 +210,7 @@ pub struct Feedback {
 /// # Ok::<(), bekurapi::Error>(())
 /// ```
 #[derive(Clone, Debug, Default, PartialEq, Eq)]
-#[allow(missing_docs)] // the members bear the protocol's own names
+#[allow(missing_docs, reason = "the members have the protocol's own names")]
 pub struct Close<'a> {
     pub close_type: i32,
     pub ret: i32,

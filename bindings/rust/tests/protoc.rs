@@ -9,11 +9,11 @@ use bekurapi::{read, to_vec, Close, Error, Init, Kind, Message, Record, Request,
 const KINDS: [Kind; 6] = [Kind::Request, Kind::Response, Kind::Init, Kind::Data, Kind::Feedback, Kind::Close];
 
 fn records_file(name: &str) -> Vec<u8> {
-    let path = Path::new(env!("CARGO_MANIFEST_DIR")).join("../../crates/records").join(name);
+    let path = Path::new(env!("CARGO_MANIFEST_DIR")).join("../../crates/test_records").join(name);
     std::fs::read(&path).unwrap_or_else(|error| panic!("{}: {error}", path.display()))
 }
 
-/// A frame of the file `stdin`: the length of its label, its kind, how many row numbers are lent and its size stand before it.
+/// A frame of the file `stdin`: the length of its label, its kind, how many row numbers are lent and its size are before it.
 struct Case {
     label: Vec<u8>,
     kind: Kind,

@@ -1,6 +1,8 @@
-//! The functions of include/bekurapi.h, which says what each promises. None of them keeps a pointer, and none keeps state beside
-//! what is lent. A pointer with a length may be null where the length is 0. This is the one place in Rust that declares them:
-//! nothing checks a declaration but the tests.
+//! The functions of include/bekurapi.h, which says what each promises. docs/PROTOCOL.md has all error numbers in one
+//! table. No function keeps a pointer, and none keeps state beside what is lent. A pointer with a length may be null
+//! where the length is 0. This is the one place in Rust that declares them. Only the tests check the declarations.
+
+#![deny(missing_docs)]
 
 /// `struct trpc_job`.
 #[repr(C)]

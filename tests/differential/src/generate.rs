@@ -27,7 +27,8 @@ const RESPONSE: &[(u32, Holds)] = &[
 ];
 const REQUEST_META: &[(u32, Holds)] = &[(1, Bytes), (2, Bytes), (3, Bytes), (4, Number), (5, Map)];
 const RESPONSE_META: &[(u32, Holds)] = &[(1, Number), (2, Bytes)];
-const INIT: &[(u32, Holds)] = &[(1, Part(REQUEST_META)), (2, Part(RESPONSE_META)), (3, Number), (4, Number), (5, Number)];
+const INIT: &[(u32, Holds)] =
+    &[(1, Part(REQUEST_META)), (2, Part(RESPONSE_META)), (3, Number), (4, Number), (5, Number)];
 const FEEDBACK: &[(u32, Holds)] = &[(1, Number)];
 const CLOSE: &[(u32, Holds)] = &[(1, Number), (2, Number), (3, Bytes), (4, Number), (5, Map), (6, Number)];
 const ENTRY: &[(u32, Holds)] = &[(1, Bytes), (2, Bytes)];
@@ -242,7 +243,7 @@ impl Generator<'_> {
         entries
     }
 
-    /// Bytes that break a rule where a field should stand. Some only do so as the last of their part.
+    /// Bytes that break a rule where a field should be. Some only do so as the last of their part.
     fn fault(&mut self) -> Vec<u8> {
         let mut out = Vec::new();
         let number = self.number_of_field();

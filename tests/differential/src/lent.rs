@@ -40,7 +40,7 @@ impl<T: Copy + PartialEq + std::fmt::Debug> Lent<T> {
 
     /// That the content is as expected and nothing around it was written.
     pub fn holds(&self, what: &str, expected: &[T]) -> Result<(), Difference> {
-        same(&format_args!("what stands around {what}, untouched"), &true, &self.guards_stand())?;
+        same(&format_args!("what is around {what}, untouched"), &true, &self.guards_stand())?;
         same_slices(what, expected, self.get())
     }
 }

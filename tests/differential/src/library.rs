@@ -1,5 +1,7 @@
 //! The library under test, through its C interface (include/bekurapi.h): safe functions over its declarations.
 
+#![allow(clippy::undocumented_unsafe_blocks, reason = "one comment below is for every call")]
+
 use crate::reference::deframer::State;
 use crate::reference::interface::{Deframed, Finished, Numbers, Parsed, Removed, Written};
 use crate::reference::messages::Kind;
@@ -25,8 +27,9 @@ pub fn header_check(bytes: &[u8]) -> u32 {
 pub fn header_parse(bytes: &[u8]) -> Parsed {
     let (mut frame_type, mut id) = (NO_NUMBER, NO_NUMBER);
     let (mut total, mut header_size) = (NO_ANSWER, NO_ANSWER);
-    let error =
-        unsafe { c::trpc_header_parse(bytes.as_ptr(), bytes.len(), &mut frame_type, &mut total, &mut header_size, &mut id) };
+    let error = unsafe {
+        c::trpc_header_parse(bytes.as_ptr(), bytes.len(), &mut frame_type, &mut total, &mut header_size, &mut id)
+    };
     Parsed { error, frame_type, total, header_size, id }
 }
 

@@ -1,4 +1,4 @@
-//! The library through its C interface against the reference, which is written from document 01 alone.
+//! The library through its C interface against the reference, which is written from document 01 only.
 //!
 //!     differential [--inputs N] [--long] [--seed N] [--family NAME]
 //!

@@ -25,7 +25,7 @@ impl Tally {
         }
     }
 
-    /// The refusals that document 01 can give and that were not answered. 20 comes behind 19 and is never given.
+    /// The refusals that document 01 can give and that were not answered. 20 comes after 19 and is never given.
     pub fn missing(&self) -> Vec<usize> {
         (1..Tally::CODES).filter(|code| *code != 20 && self.0[*code] == 0).collect()
     }
@@ -50,7 +50,15 @@ pub struct Family {
 impl Family {
     pub fn new(name: &'static str, inputs: u64, seed: u64) -> Family {
         let own = name.bytes().fold(seed, |seed, byte| Random::new(seed ^ u64::from(byte)).u64());
-        Family { name, inputs, random: Random::new(own), seed, tally: Tally::default(), done: 0, started: Instant::now() }
+        Family {
+            name,
+            inputs,
+            random: Random::new(own),
+            seed,
+            tally: Tally::default(),
+            done: 0,
+            started: Instant::now(),
+        }
     }
 
     /// Compares one input; a difference ends the program.

@@ -67,7 +67,9 @@ pub fn lower(bytes: &[u8]) -> impl Iterator<Item = Vec<u8>> + '_ {
 
 /// Smaller numbers than this one: 0, a half, three quarters and so on, down to one less.
 pub fn less(number: u64) -> impl Iterator<Item = u64> {
-    std::iter::successors(Some(number), |step| Some(step / 2)).take_while(|step| *step > 0).map(move |step| number - step)
+    std::iter::successors(Some(number), |step| Some(step / 2))
+        .take_while(|step| *step > 0)
+        .map(move |step| number - step)
 }
 
 /// With one of the numbers less.
@@ -87,7 +89,7 @@ struct Field {
     content: Option<Range<usize>>,
 }
 
-/// The varint at a place and the place behind it.
+/// The varint at a place and the place after it.
 fn varint(bytes: &[u8], at: usize) -> Option<(usize, usize)> {
     let length = bytes[at..].iter().take(10).position(|byte| *byte < 0x80)? + 1;
     let groups = bytes[at..at + length].iter().rev();
@@ -114,7 +116,7 @@ fn field(bytes: &[u8], at: usize) -> Option<Field> {
     (end <= bytes.len()).then_some(Field { whole: at..end, content })
 }
 
-/// The place behind the group whose first tag ends here.
+/// The place after the group whose first tag ends here.
 fn group_end(bytes: &[u8], mut at: usize) -> Option<usize> {
     let mut open = 1;
     while open > 0 {

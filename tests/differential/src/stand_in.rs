@@ -1,5 +1,11 @@
-//! Without the feature `library`: the reference behind the library's own signatures, and faults that can be put into it
+//! Without the feature `library`: the reference under the library's own signatures, and faults that can be put into it
 //! (`--fault NAME`), to see that each is found and how small the shrinker makes its input.
+
+#![allow(
+    clippy::too_many_arguments,
+    unsafe_op_in_unsafe_fn,
+    reason = "the signatures are the library's, and so is what they ask of a caller"
+)]
 
 use crate::reference::deframer::State;
 use crate::reference::header;
@@ -60,7 +66,6 @@ pub unsafe fn trpc_header_parse(
     answer.error
 }
 
-#[allow(clippy::too_many_arguments)]
 pub unsafe fn trpc_deframe(
     held: *mut usize,
     error: *mut u32,
@@ -142,7 +147,6 @@ macro_rules! readers {
 
 macro_rules! writers {
     ($($name:ident $kind:ident)*) => { $(
-        #[allow(clippy::too_many_arguments)]
         pub unsafe fn $name(
             record: *const Numbers,
             source: *const u8,
@@ -200,7 +204,8 @@ pub unsafe fn trpc_queue_add(queue: *mut Queue, connection: u32, request: u32, t
 pub unsafe fn trpc_queue_take(queue: *mut Queue, removed: *mut Job) -> u32 {
     let queue = &mut *queue;
     let due = |job: &Job| (job.arrival as u32).wrapping_add(job.timeout);
-    let narrow = queue.jobs[..queue.count.min(64)].iter().filter(|job| job.timeout != 0).min_by_key(|job| due(job)).copied();
+    let narrow =
+        queue.jobs[..queue.count.min(64)].iter().filter(|job| job.timeout != 0).min_by_key(|job| due(job)).copied();
     let answer = match narrow {
         Some(job) if fault("due-in-32-bits") => interface::queue_cancel(queue, job.connection, job.request),
         _ => interface::queue_take(queue),

@@ -1,4 +1,4 @@
-//! What the listing of a stream has to be, from document 01 alone and on the whole stream at once.
+//! What the listing of a stream has to be, from document 01 only and on the whole stream at once.
 
 const KINDS: [&str; 4] = ["init", "data", "feedback", "close"];
 
@@ -20,7 +20,7 @@ fn header(h: &[u8]) -> Result<(&'static str, u64, usize), u32> {
         (3, magic != 0x0930),
         (4, data_type > 1),
         (5, kind.is_none()),
-        (6, total < 16 || total > 65_536),
+        (6, !(16..=65_536).contains(&total)),
         (7, header_size > most),
         (8, reserved != 0),
     ];

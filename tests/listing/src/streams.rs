@@ -75,7 +75,9 @@ impl Random {
         match self.below(5) {
             0 => vec![self.one_of(&[1, 3, 15, 17, 4_095])],
             1 => vec![4_096],
-            _ => (0..1 + self.below(7)).map(|_| self.one_of(&[1, 3, 5, 7, 13, 15, 16, 17, 31, 101, 1_023, 4_095])).collect(),
+            _ => (0..1 + self.below(7))
+                .map(|_| self.one_of(&[1, 3, 5, 7, 13, 15, 16, 17, 31, 101, 1_023, 4_095]))
+                .collect(),
         }
     }
 
@@ -90,7 +92,8 @@ const EXAMPLE: [u8; 20] = [0x09, 0x30, 1, 3, 0, 0, 0, 0x13, 0, 0, 0, 0, 0, 5, 0,
 /// One or two bytes of the headers, or any byte of the stream, are others.
 fn damage(random: &mut Random, stream: &mut [u8], places: &[usize]) {
     for _ in 0..1 + random.below(2) {
-        let at = if random.below(5) == 0 { random.below(stream.len()) } else { random.one_of(places) + random.below(16) };
+        let at =
+            if random.below(5) == 0 { random.below(stream.len()) } else { random.one_of(places) + random.below(16) };
         stream[at] = random.one_of(&[0, 1, 2, 4, 5, 0x09, 0x10, 0x30, 0xFF, stream[at] ^ 1]);
     }
 }

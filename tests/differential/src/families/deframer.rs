@@ -15,7 +15,7 @@ use crate::run::{Family, Tally};
 use crate::shrink::{fewer, less, lower, without, Case};
 use std::cell::RefCell;
 
-/// What stands in a buffer that received nothing.
+/// What is in a buffer that received nothing.
 const EMPTY: u8 = 0xA5;
 
 /// The buffers of reference and library. Between inputs both are empty again.
@@ -69,7 +69,7 @@ impl Walk<'_> {
         let expected = interface::deframe(before, reference, piece);
         let actual = library::deframe(before, library.get_mut(), piece);
         tally.count(expected.error);
-        same(&format_args!("a call of {} bytes behind {} taken", piece.len(), self.taken), &expected, &actual)?;
+        same(&format_args!("a call of {} bytes after {} taken", piece.len(), self.taken), &expected, &actual)?;
         self.state = expected.next;
         self.taken += expected.taken;
         self.reach = self.reach.max(before.held + expected.taken);
@@ -85,7 +85,7 @@ impl Walk<'_> {
     fn finish(&self, buffers: &Buffers) -> Result<(), Difference> {
         let expected = interface::finish(self.state, &buffers.reference);
         let actual = library::finish(self.state, buffers.library.get());
-        same(&format_args!("the end behind {} taken", self.taken), &expected, &actual)
+        same(&format_args!("the end after {} taken", self.taken), &expected, &actual)
     }
 
     /// The frame just cut is the uncut reading's next, and reads the same.
@@ -199,7 +199,8 @@ impl Case for Stream {
                 Stream { pieces, ..self.clone() }
             })
         });
-        let bytes = shorter_streams(&self.bytes).chain(lower(&self.bytes)).map(|bytes| Stream { bytes, ..self.clone() });
+        let bytes =
+            shorter_streams(&self.bytes).chain(lower(&self.bytes)).map(|bytes| Stream { bytes, ..self.clone() });
         let all = without_misuse.into_iter().chain(one_piece).chain(fewer_pieces).chain(bytes);
         Box::new(all.chain(joined).chain(smaller_pieces))
     }
@@ -233,7 +234,7 @@ fn shorter_streams(bytes: &[u8]) -> impl Iterator<Item = Vec<u8>> + '_ {
 }
 
 /// Streams that are short enough for every split: document 01's listing, a frame of 16 bytes and a refused header with bytes
-/// behind them, and headers that never come to their end.
+/// after them, and headers that never come to their end.
 fn short_streams() -> Vec<Vec<u8>> {
     let empty = frame(Kind::Request, 7, &[], &[]);
     let mut refused = empty.clone();
@@ -400,7 +401,8 @@ pub fn states(family: &mut Family) {
         let near = fixed.total.wrapping_add(random.below(3)).wrapping_sub(1);
         let any = random.number() as usize;
         let held = random.pick(&[0, 1, 14, 15, 16, 16, 16, 16, 17, 20, near, near, 65_535, 65_536, usize::MAX, any]);
-        let held = if held > 16 && fixed.error() == 0 && random.one_in(2) { random.between(16, fixed.total) } else { held };
+        let held =
+            if held > 16 && fixed.error() == 0 && random.one_in(2) { random.between(16, fixed.total) } else { held };
         let own = fixed.error();
         let small = random.below(12) as u32;
         let error = random.pick(&[0, 0, 0, own, own, own, small, any as u32]);

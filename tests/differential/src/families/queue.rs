@@ -47,9 +47,10 @@ impl Calls {
                 return same(&call_name(call), &error, &got);
             }
             Call::Take => (interface::queue_take(expected), library::queue_take(actual)),
-            Call::Cancel(connection, request) => {
-                (interface::queue_cancel(expected, connection, request), library::queue_cancel(actual, connection, request))
-            }
+            Call::Cancel(connection, request) => (
+                interface::queue_cancel(expected, connection, request),
+                library::queue_cancel(actual, connection, request),
+            ),
         };
         tally.count(wanted.error);
         same(&call_name(call), &wanted, &got)
@@ -84,7 +85,8 @@ impl Case for Calls {
     }
 
     fn smaller(&self) -> Box<dyn Iterator<Item = Calls> + '_> {
-        let empty = (*self.queue != Queue::default()).then(|| Calls { queue: Box::default(), calls: self.calls.clone() });
+        let empty =
+            (*self.queue != Queue::default()).then(|| Calls { queue: Box::default(), calls: self.calls.clone() });
         let fewer_calls = fewer(&self.calls).map(|calls| Calls { calls, queue: self.queue.clone() });
         let fewer_jobs = (0..self.queue.count.min(CAPACITY)).map(|place| {
             let mut queue = self.queue.clone();
@@ -119,7 +121,9 @@ impl Case for Calls {
             queue.count = count as usize;
             Calls { queue, calls: self.calls.clone() }
         });
-        Box::new(empty.into_iter().chain(fewer_calls).chain(fewer_jobs).chain(counts).chain(lower_jobs).chain(lower_calls))
+        Box::new(
+            empty.into_iter().chain(fewer_calls).chain(fewer_jobs).chain(counts).chain(lower_jobs).chain(lower_calls),
+        )
     }
 
     fn show(&self) -> String {

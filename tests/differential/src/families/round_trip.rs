@@ -32,7 +32,11 @@ fn meaning<'a>(kind: Kind, record: &Numbers, source: &'a [u8], rows: &[u32], bod
         numbers: numbers.map(|place| record[*place]).collect(),
         marks: layout.marks.iter().map(|place| record[*place] != 0).collect(),
         bytes: layout.bytes.iter().map(|place| bytes(record[*place], record[place + 1])).collect(),
-        rows: rows.chunks(4).take(record[1] as usize).map(|row| (bytes(row[0], row[1]), bytes(row[2], row[3]))).collect(),
+        rows: rows
+            .chunks(4)
+            .take(record[1] as usize)
+            .map(|row| (bytes(row[0], row[1]), bytes(row[2], row[3])))
+            .collect(),
         body,
     }
 }

@@ -86,7 +86,8 @@ impl Case for Writing {
             smaller.record[1] = smaller.record[1].checked_sub(1)?;
             Some(smaller)
         });
-        let records = each_less(&self.record).map(|record| Writing { record: record.try_into().unwrap(), ..self.clone() });
+        let records =
+            each_less(&self.record).map(|record| Writing { record: record.try_into().unwrap(), ..self.clone() });
         let outs = less(self.out as u64).map(|out| Writing { out: out as usize, ..self.clone() });
         Box::new(bodies.chain(without_row).chain(records).chain(rows).chain(sources).chain(outs))
     }
@@ -252,7 +253,8 @@ impl Writing {
             }
             9 => match layout.attachment {
                 Some(place) => {
-                    self.record[place] = random.pick(&[self.body.len() as u32 + 1, self.body.len() as u32 + 2, u32::MAX]);
+                    self.record[place] =
+                        random.pick(&[self.body.len() as u32 + 1, self.body.len() as u32 + 2, u32::MAX]);
                 }
                 None => self.body.push(random.byte()),
             },

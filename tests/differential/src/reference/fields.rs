@@ -71,7 +71,7 @@ impl<'a> Walk<'a> {
         }
     }
 
-    /// The value behind a tag; `depth` is how deep a group would be that starts here.
+    /// The value after a tag; `depth` is how deep a group would be that starts here.
     fn value(&mut self, number: u32, wire_type: u32, depth: u32) -> Result<Value, Refusal> {
         match wire_type {
             0 => Ok(Value::Varint(self.varint()?)),

@@ -253,7 +253,12 @@ impl Message {
             }),
             Kind::Init => Message::Init(Init {
                 request_meta_present: n.mark(),
-                request_meta: RequestMeta { caller: n.span(), callee: n.span(), func: n.span(), message_type: n.next() },
+                request_meta: RequestMeta {
+                    caller: n.span(),
+                    callee: n.span(),
+                    func: n.span(),
+                    message_type: n.next(),
+                },
                 response_meta_present: n.mark(),
                 response_meta: ResponseMeta { ret: n.signed(), error_msg: n.span() },
                 init_window_size: n.next(),

@@ -1,4 +1,4 @@
-//! Document 01 in straightforward Rust, written from the paper alone. Sentences in quotes are the paper's.
+//! Document 01 in straightforward Rust, written from the paper only. Sentences in quotes are the paper's.
 
 pub mod deframer;
 pub mod fields;

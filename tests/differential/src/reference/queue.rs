@@ -54,7 +54,8 @@ impl Queue {
     /// 24: "count over 64, a waiting pair twice, or a waiting arrival above 2^62"
     fn checked(&self) -> Result<&[Job], Refusal> {
         let jobs = self.jobs.get(..self.count).ok_or(24u32)?;
-        let twice = |later: usize| jobs[..later].iter().any(|job| job.is_pair(jobs[later].connection, jobs[later].request));
+        let twice =
+            |later: usize| jobs[..later].iter().any(|job| job.is_pair(jobs[later].connection, jobs[later].request));
         if (0..jobs.len()).any(twice) || jobs.iter().any(|job| job.arrival > LATEST) {
             return Err(24);
         }

@@ -3,7 +3,8 @@
 use super::fields::{Value, Walk};
 use super::header::{first, judge, FixedHeader, SIZE, UNARY};
 use super::messages::{
-    Close, Feedback, Init, Kind, Message, Request, RequestMeta, Response, ResponseMeta, Row, Span, MOST_ROWS, ROW_NUMBERS,
+    Close, Feedback, Init, Kind, Message, Request, RequestMeta, Response, ResponseMeta, Row, Span, MOST_ROWS,
+    ROW_NUMBERS,
 };
 use super::Refusal;
 

@@ -83,8 +83,8 @@ fn due_times() {
 
 // ---- The frames of crates/test_records: those that protoc wrote, with the values that it was given, and damaged ones. -------
 
-const RECORDS: &str = concat!(env!("CARGO_MANIFEST_DIR"), "/../../crates/records");
-const WRITES: &str = concat!(env!("CARGO_MANIFEST_DIR"), "/../../crates/writes");
+const RECORDS: &str = concat!(env!("CARGO_MANIFEST_DIR"), "/../../crates/test_records");
+const WRITES: &str = concat!(env!("CARGO_MANIFEST_DIR"), "/../../crates/test_writes");
 
 enum Prints {
     Number,

@@ -94,7 +94,8 @@ fn spans(message: &Message) -> Vec<Span> {
 
 /// Whether each meta part that is marked absent is "all zero, empty and rowless". A byte field is empty by its length.
 fn absent_parts_empty(input: &Input) -> bool {
-    let Message::Init(Init { request_meta_present, request_meta, response_meta_present, response_meta, .. }) = input.message
+    let Message::Init(Init { request_meta_present, request_meta, response_meta_present, response_meta, .. }) =
+        input.message
     else {
         return true;
     };
