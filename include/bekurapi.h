@@ -1,32 +1,42 @@
 /*
  * Bekurapi's interface for C: checks, cuts, reads and writes tRPC frames, and keeps a queue of waiting jobs.
  *
+ * docs/PROTOCOL.md says what a frame is, field by field. Its section "Errors" has all error codes in one table, with
+ * what to do about each.
+ *
  * Link with libbekurapi.a and, for the queue, libqueue_in_place.a. `rt staticlib bekurapi` and
  * `rt staticlib queue_in_place` write them to target/staticlib/:
  *
  *     cc -Iinclude program.c target/staticlib/libbekurapi.a target/staticlib/libqueue_in_place.a
  *
- * Of every function:
+ * What a caller ensures:
  *
- * - Pointers. One with a length beside it refers to as many bytes or numbers as the length says, and may be null where
+ * - Pointers. One with a length beside it refers to as many bytes or numbers as the length says. It may be null where
  *   the length is 0. Any other refers to one number or struct, and is not null.
  * - Overlap. What a function writes to overlaps nothing else that it is given. During the call nobody else reads or
  *   writes it, and nobody writes to what the function only reads.
- * - Arguments. Beyond that every argument is taken: a bad one is refused with an error code.
- * - Error codes. One is returned exactly when its ground holds and the ground of none before it in the order does. The
- *   order is written at the enum of the codes. 0 is returned where no ground holds.
+ *
+ * What every function promises then. Arguments, error codes and what is left are proved (docs/THEOREMS.md):
+ *
+ * - Arguments. Every argument is taken. A bad one is refused with an error code.
+ * - Error codes. One is returned exactly when its ground holds and no ground before it in the order does. The order is
+ *   at the enum of the codes. 0 is returned where no ground holds.
  * - What is left. Each function says what everything lent to it is afterwards, also after a refusal. What is lent as
  *   const is never changed.
+ *
+ * What is said of state, system, stack and time is not proved:
+ *
  * - State. No function has state of its own, and none keeps a pointer. Each may be called from any thread.
  * - System. No function allocates, waits or calls the system. memcpy, memmove and memset are those of the program.
- * - Stack. A call needs at most 6 KiB, beside what these three need.
- * - Time. trpc_header_check, trpc_header_parse, trpc_finish and trpc_queue_init take a fixed time, trpc_deframe one in
- *   proportion to the bytes that it takes. Each other call takes at most a time in proportion to what it is lent, and
- *   compares keys, or jobs, two at a time: up to 2,016 times, for there are at most 64. After that trpc_queue_add and
- *   trpc_queue_cancel look through up to 64 jobs, and trpc_queue_take compares due times up to 63 times. A reader's
- *   keys lie in one frame. A writer's may each be as long as the source, and are compared before the frame's size is
- *   known: so a write that is refused may take long. Whoever writes keys that a stranger chose bounds their lengths
- *   first.
+ * - Stack. A call needs at most 6 KiB, beside what memcpy, memmove and memset need. tests/stack.c measures it.
+ * - Time. It follows from how the code is made. trpc_header_check, trpc_header_parse, trpc_finish and trpc_queue_init
+ *   take a fixed time. That of trpc_deframe is in proportion to the bytes that it takes. That of each other call is at
+ *   most in proportion to what it is lent, and to the comparisons of two keys, or of two jobs. There are at most 64, so
+ *   they are compared up to 2,016 times. After that trpc_queue_add and trpc_queue_cancel look through up to 64 jobs,
+ *   and trpc_queue_take compares due times up to 63 times.
+ * - Time of a refused write. A writer's keys may each be as long as the source. They are compared before the frame's
+ *   size is known, so a write that is refused may take long. Whoever writes keys that a stranger chose bounds their
+ *   lengths first.
  */
 #ifndef BEKURAPI_H
 #define BEKURAPI_H
@@ -42,11 +52,10 @@ extern "C" {
 #define TRPC_HEADER_SIZE 16
 
 /*
- * The error codes of trpc_header_check and trpc_header_parse. The header's bytes are counted from 1, its numbers are
- * big-endian.
+ * The error codes of trpc_header_check and trpc_header_parse. The header's bytes are counted from 1, and its numbers
+ * are big-endian (docs/PROTOCOL.md, "The 16 bytes").
  *
- * Order: TRPC_HEADER_LENGTH, then the others by rising number: TRPC_HEADER_MAGIC, TRPC_HEADER_DATA_TYPE,
- * TRPC_HEADER_STREAM_TYPE, TRPC_HEADER_TOTAL, TRPC_HEADER_HEADER_SIZE, TRPC_HEADER_RESERVED.
+ * Order: TRPC_HEADER_LENGTH, then the others by rising number.
  */
 enum trpc_header_error {
     TRPC_HEADER_GOOD = 0,        /* a good header */
@@ -56,16 +65,16 @@ enum trpc_header_error {
     TRPC_HEADER_TOTAL = 6,       /* bytes 5-8, the frame's size with these 16, are not 16 to 65,536 */
     TRPC_HEADER_HEADER_SIZE = 7, /* bytes 9-10 are more than the total less 16 (unary), or not 0 (stream) */
     TRPC_HEADER_RESERVED = 8,    /* bytes 15-16 are not both 0 */
-    TRPC_HEADER_LENGTH = 9       /* not 16 bytes were given */
+    TRPC_HEADER_LENGTH = 9       /* the number of bytes given is not 16 */
 };
 
 /*
  * Checks a fixed header.
  *
  * bytes  the header.
- * len    how many bytes there are. Any number is taken; only 16 can be good.
+ * len    how many bytes there are. Any number is taken, and only 16 can be good.
  *
- * Returns a code of enum trpc_header_error. The bytes after the header, the frame's content, are not looked at.
+ * Returns a code of enum trpc_header_error.
  *
  *     static const uint8_t header[16] = {0x09, 0x30, 0, 0, 0, 0, 0, 16, 0, 0, 0, 0, 0, 7, 0, 0};
  *
@@ -76,8 +85,8 @@ enum trpc_header_error {
 uint32_t trpc_header_check(const uint8_t *bytes, size_t len);
 
 /*
- * What a fixed header says a frame is. The numbers are those of the stream type. A unary frame does not say whether it
- * is a request or a response: the caller knows.
+ * What a fixed header says a frame is. The numbers are those of the stream type, and 0 for unary. A unary frame does
+ * not say whether it is a request or a response. Its receiver knows.
  */
 enum trpc_frame_type {
     TRPC_FRAME_UNARY = 0,
@@ -88,15 +97,15 @@ enum trpc_frame_type {
 };
 
 /*
- * Reads a fixed header: for a caller that has a frame and is to choose its reader.
+ * Reads a fixed header. It is for a caller that has a frame and is to choose its reader.
  *
  * bytes, len   the header, as for trpc_header_check: the first 16 bytes of a frame.
  * frame_type   receives one of enum trpc_frame_type.
  * total        receives the frame's size, its fixed header included.
- * header_size  receives the size of a unary frame's header message; 0 for a stream frame.
- * id           receives the request id or stream id, bytes 11-14: the one to answer with.
+ * header_size  receives the size of a unary frame's header message. It is 0 for a stream frame.
+ * id           receives the request id or stream id, bytes 11-14. It is the one to answer with.
  *
- * Returns a code of enum trpc_header_error, the one that trpc_header_check returns. After a refusal all four are 0.
+ * Returns the code of enum trpc_header_error that trpc_header_check returns. After a refusal all four are 0.
  *
  *     code = trpc_header_parse(frame, TRPC_HEADER_SIZE, &frame_type, &total, &header_size, &id);
  *     if (code == 0 && frame_type == TRPC_FRAME_FEEDBACK) {
@@ -112,14 +121,18 @@ uint32_t trpc_header_parse(const uint8_t *bytes, size_t len, uint32_t *frame_typ
 #define TRPC_MAX_FRAME 65536
 
 /*
- * The error codes of trpc_deframe and trpc_finish; a header that is refused has its code of enum trpc_header_error.
+ * The error codes of trpc_deframe and trpc_finish. A header that is refused has its code of enum trpc_header_error.
  *
- * Order of trpc_deframe: TRPC_DEFRAME_BUFFER, TRPC_DEFRAME_STATE, the code of a header that was refused before, then
- * the codes 3 to 8 of the header whose 16th byte arrives, rising.
+ * Order of trpc_deframe:
  *
- * Order of trpc_finish: TRPC_DEFRAME_BUFFER, TRPC_DEFRAME_STATE, the code of a header that was refused before.
+ * 1. TRPC_DEFRAME_BUFFER.
+ * 2. TRPC_DEFRAME_STATE.
+ * 3. The code of a header that was refused before.
+ * 4. The codes 3 to 8 of the header whose 16th byte arrives, rising.
  *
- * A state, `held` and `error`, is known with a buffer if one of these holds:
+ * The order of trpc_finish is the same without the last.
+ *
+ * A state is `held` and `error`. It is known with a buffer if one of these holds:
  *
  * - Under 16 bytes are held, and the error is 0.
  * - 16 bytes or more are held, the error is 0, the first 16 are a good header, and its total is more than are held.
@@ -132,8 +145,9 @@ enum trpc_deframe_error {
 };
 
 /*
- * One call of the deframer: takes bytes of the piece to the buffer, after those held, until a frame is whole, a header
- * is refused or the piece ends. A header is judged when its 16th byte arrives, never sooner.
+ * One call of the deframer (docs/PROTOCOL.md, "Cutting a stream"). It takes bytes of the piece to the buffer, after
+ * those held, until a frame is whole, a header is refused or the piece ends. A header is judged when its 16th byte
+ * arrives, never sooner.
  *
  * held, error  the state: how many bytes of an unfinished frame are at the start of the buffer, and the code of the
  *              header that ended the stream, 0 for none. Both are 0 when fresh. The caller keeps them, with the buffer,
@@ -141,16 +155,16 @@ enum trpc_deframe_error {
  * buffer       at least TRPC_MAX_FRAME bytes. Bytes that received nothing are unchanged.
  * piece        the bytes that arrived, any number of them, even none.
  * taken        receives how many bytes of the piece were taken. The rest is to be offered again.
- * size         receives the size of a whole frame, which is at the start of the buffer until the next call; 0 where
- *              there is none.
+ * size         receives the size of a whole frame, or 0 where there is none. The frame is at the start of the buffer
+ *              until the next call.
  *
  * Returns 0, or a code of enum trpc_deframe_error or enum trpc_header_error.
  *
  * - 0 and *size not 0: a whole frame. Nothing is held.
  * - 0 and *size 0: the piece is used up and more is needed.
  * - 3 to 8: a header is refused. It stays at the start of the buffer, *held is 16 and *error is the code. *taken is how
- *   many bytes of it this call took. Later calls return the same code, take nothing and leave state and buffer as they
- *   are.
+ *   many bytes of it this call took, and *size is 0. Later calls return the same code, take nothing and leave state and
+ *   buffer as they are. Where the next frame starts is not known, so the stream is lost.
  * - 1 and 2: *held, *error and all of the buffer are as they were, *taken and *size are 0.
  *
  *     static uint8_t buffer[TRPC_MAX_FRAME];
@@ -171,7 +185,8 @@ uint32_t trpc_deframe(size_t *held, uint32_t *error, uint8_t *buffer, size_t buf
  * The end of the stream, if no byte comes after those that the deframer took.
  *
  * held, error, buffer  as trpc_deframe left them.
- * short_by             receives how many bytes of an unfinished frame are held: 0 is a clean end. 0 after a refusal.
+ * short_by             receives how many bytes of an unfinished frame are held: 0 is a clean end. After a refusal it
+ *                      is 0.
  *
  * Returns 0, or a code of enum trpc_deframe_error or enum trpc_header_error.
  *
@@ -184,12 +199,12 @@ uint32_t trpc_finish(size_t held, uint32_t error, const uint8_t *buffer, size_t 
 
 /* ---- Records ---- */
 
-/* How many row numbers a reader wants: four to a row, at most 64 rows. */
+/* How many row numbers a reader wants. A row has four, and there are at most 64 rows. */
 #define TRPC_ROW_NUMBERS 256
 
 /*
- * A part of the frame that was read, or of a writer's source: where it starts, counted from the first byte, and its
- * length. One that was read lies within the frame; an empty one is 0, 0.
+ * A part of the frame that was read, or of a writer's source. It has its start, counted from the first byte, and its
+ * length. One that was read lies within the frame, and an empty one is 0, 0.
  */
 struct trpc_span {
     uint32_t start;
@@ -197,18 +212,19 @@ struct trpc_span {
 };
 
 /*
- * The record of each kind, 24 numbers of 32 bits.
+ * The record of each kind, 24 numbers of 32 bits. docs/PROTOCOL.md, "The six messages", has the number and the type of
+ * each field.
  *
- * id          the request id or stream id of the fixed header, bytes 11-14: the one to answer with.
+ * id          the request id or stream id of the fixed header, bytes 11-14. It is the one to answer with.
  * request_id  the message's own request id, which is only handed over. A writer writes id and request_id each as it is:
  *             a request with only .request_id = 7 is written as a frame with the id 0.
  * rows        how many rows of the map there are.
  * header, body, attachment
- *             what a reader found where; a writer does not look at them. The attachment is the last attachment_size
- *             bytes of the body. In Init, Feedback and Close the message is the header, and the others are empty. Data
- *             has only a body.
+ *             where a reader found these parts. A writer does not look at them. The attachment is the last
+ *             attachment_size bytes of the body. In Init, Feedback and Close the message is the header, and the others
+ *             are empty. Data has only a body.
  * .._present  0 or 1 when read. When written, any number but 0 marks a part as present.
- * zero        0 when read; a writer does not look at it.
+ * zero        0 when read. A writer does not look at it.
  *
  * Enumerated numbers pass through as they are.
  */
@@ -258,8 +274,8 @@ struct trpc_response {
  * response_meta  ret and error_msg.
  * its own        init_window_size, content_type and content_encoding.
  *
- * In a part that is not marked as present the numbers are 0 and the byte fields are empty, and there are no rows
- * without request_meta. So a reader leaves it; to a writer anything else is a ground of TRPC_WRITE_ROWS.
+ * A reader leaves a part that is not marked as present with numbers that are 0 and byte fields that are empty. Without
+ * request_meta there are no rows. Anything else is to a writer a ground of TRPC_WRITE_ROWS.
  */
 struct trpc_init {
     uint32_t id;
@@ -314,7 +330,7 @@ struct trpc_close {
     uint32_t zero[10];
 };
 
-/* A row of the map trans_info: four of the row numbers. */
+/* A row of the map trans_info. It is four of the row numbers. */
 struct trpc_row {
     struct trpc_span key;
     struct trpc_span value;
@@ -323,12 +339,17 @@ struct trpc_row {
 /* ---- Reading a frame ---- */
 
 /*
- * The error codes of the readers; a fixed header that is refused has its code of enum trpc_header_error.
+ * The error codes of the readers. A fixed header that is refused has its code of enum trpc_header_error.
  *
- * Order: TRPC_READ_ROWS; TRPC_READ_KIND for fewer than 16 bytes; the codes 3 to 8 of the fixed header, rising;
- * TRPC_READ_KIND for its other grounds; then the fields from left to right, at each place TRPC_READ_VARINT,
- * TRPC_READ_TAG and TRPC_READ_DEPTH of the tag, TRPC_READ_VARINT and TRPC_READ_LENGTH of the value, and
- * TRPC_READ_ENTRIES before an entry's inside; TRPC_READ_ATTACHMENT last.
+ * Order (docs/PROTOCOL.md, "Reading a frame"):
+ *
+ * 1. TRPC_READ_ROWS.
+ * 2. TRPC_READ_KIND for fewer than 16 bytes.
+ * 3. The codes 3 to 8 of the fixed header, rising.
+ * 4. TRPC_READ_KIND for its other grounds.
+ * 5. The fields from left to right. At each place: TRPC_READ_VARINT, TRPC_READ_TAG and TRPC_READ_DEPTH of the tag, then
+ *    TRPC_READ_VARINT and TRPC_READ_LENGTH of the value, then TRPC_READ_ENTRIES before an entry's inside.
+ * 6. TRPC_READ_ATTACHMENT.
  */
 enum trpc_read_error {
     TRPC_READ_DONE = 0,
@@ -347,12 +368,12 @@ enum trpc_read_error {
  *
  * frame   one whole frame, as trpc_deframe leaves it.
  * rows    at least TRPC_ROW_NUMBERS numbers. The first 256 receive the rows of the map, four numbers each (struct
- *         trpc_row), in order of first appearance, and zeros after them, for every kind. Numbers past 256 are
- *         untouched.
+ *         trpc_row), in order of first appearance. After them come zeros up to 256, for every kind. Numbers past 256
+ *         are untouched.
  * record  receives the record. Its values before the call don't matter.
  *
- * Returns 0, or a code of enum trpc_read_error or enum trpc_header_error. After a refusal all of the record is 0. After
- * the codes 10 to 15 the first 256 row numbers are 0; all other codes leave the rows untouched.
+ * Returns 0, or a code of enum trpc_read_error or enum trpc_header_error. After a refusal all of the record is 0. The
+ * codes 10 to 15 leave the first 256 row numbers 0. All other codes leave the rows untouched.
  *
  *     struct trpc_request request;
  *     uint32_t rows[TRPC_ROW_NUMBERS];
@@ -380,8 +401,15 @@ uint32_t trpc_read_close(const uint8_t *frame, size_t frame_len, uint32_t *rows,
 /*
  * The error codes of the writers.
  *
- * Order: TRPC_WRITE_ROWS for over 64 rows, rows with Feedback or Data, and too few row numbers; TRPC_WRITE_SOURCE;
- * TRPC_WRITE_ROWS for its other grounds; TRPC_WRITE_BODY; TRPC_WRITE_FRAME; TRPC_WRITE_HEADER; TRPC_WRITE_OUTPUT.
+ * Order (docs/PROTOCOL.md, "Writing a frame"):
+ *
+ * 1. TRPC_WRITE_ROWS for over 64 rows, rows with Feedback or Data, and too few row numbers.
+ * 2. TRPC_WRITE_SOURCE.
+ * 3. TRPC_WRITE_ROWS for its other grounds.
+ * 4. TRPC_WRITE_BODY.
+ * 5. TRPC_WRITE_FRAME.
+ * 6. TRPC_WRITE_HEADER. It is never returned: where its ground holds, that of TRPC_WRITE_FRAME does, too.
+ * 7. TRPC_WRITE_OUTPUT.
  */
 enum trpc_write_error {
     TRPC_WRITE_DONE = 0,
@@ -390,26 +418,27 @@ enum trpc_write_error {
     TRPC_WRITE_ROWS = 18,   /* over 64 rows, rows with Feedback or Data, too few row numbers for them, equal keys, or a
                                meta part of Init marked absent and not all zero, empty and rowless */
     TRPC_WRITE_FRAME = 19,  /* the frame is over 65,536 bytes */
-    TRPC_WRITE_HEADER = 20, /* the header message is over 65,535 bytes; TRPC_WRITE_FRAME holds then, and comes first */
+    TRPC_WRITE_HEADER = 20, /* the header message is over 65,535 bytes */
     TRPC_WRITE_OUTPUT = 27  /* the output is shorter than the frame */
 };
 
 /*
- * Each writes the frame of a record of its kind to the start of the output: fields by rising number, zero and empty
- * ones left out, rows in the given order.
+ * Each writes the frame of a record of its kind to the start of the output. Fields are written by rising number, rows
+ * in the given order. Numbers that are 0 and byte fields that are empty are left out.
  *
  * record  the record. Header, body and attachment in it are not looked at, nor is `zero`.
  * source  the bytes that the starts of the record and of its rows count from.
  * rows    four numbers for each of the record's rows (struct trpc_row). Numbers after those are not looked at.
  * body    the frame's body. Of a request or response its last attachment_size bytes are the attachment.
- * out     receives the frame. Bytes past the frame stay as they were; after a refusal all bytes do.
- * size    receives the frame's size, 0 after a refusal.
+ * out     receives the frame. Bytes past the frame stay as they were. After a refusal all bytes do. TRPC_MAX_FRAME
+ *         bytes are always enough.
+ * size    receives the frame's size. It is 0 after a refusal.
  *
  * Returns a code of enum trpc_write_error.
  *
  * What was read can be handed to the writer of its kind: the record and the rows, the frame as the source, and the
- * frame's body. It may be refused with TRPC_WRITE_FRAME: the frame written may be longer than the one read. No other
- * code is ruled out yet.
+ * frame's body. It may be refused with TRPC_WRITE_FRAME, since the frame written may be longer than the one read. That
+ * no other code is returned is not promised.
  *
  *     struct trpc_feedback feedback = {.id = 5, .window_size_increment = 300};
  *     uint8_t out[64];
@@ -443,7 +472,7 @@ uint32_t trpc_write_close(const struct trpc_close *record, const uint8_t *source
 /* The most jobs that wait in a queue. */
 #define TRPC_QUEUE_CAPACITY 64
 
-/* The latest arrival that a job may have: 2^62. */
+/* The latest arrival that a job may have, 2^62. */
 #define TRPC_QUEUE_LATEST_ARRIVAL UINT64_C(4611686018427387904)
 
 /*
@@ -464,7 +493,7 @@ enum trpc_queue_error {
 };
 
 /*
- * A job, named by its pair of connection number and request id. `zero` fills the place before the arrival. It is 0 in a
+ * A job. Its pair of connection number and request id names it. `zero` fills the place before the arrival. It is 0 in a
  * job that was added and in a place that was freed. It moves with its job and is never looked at.
  */
 struct trpc_job {
@@ -476,8 +505,9 @@ struct trpc_job {
 };
 
 /*
- * A queue: the first `count` jobs wait, in order of acceptance. It is in the caller's memory and is all of its state,
- * so it may be copied by assignment. What is past the count is no job and is not looked at.
+ * A queue (docs/PROTOCOL.md, "Waiting jobs"). The first `count` jobs wait, in order of acceptance. What is past the
+ * count is no job and is not looked at. The queue is in the caller's memory and is all of its state, so it may be
+ * copied by assignment.
  */
 struct trpc_queue {
     struct trpc_job jobs[TRPC_QUEUE_CAPACITY];
@@ -487,8 +517,8 @@ struct trpc_queue {
 /*
  * In each function below
  *
- * queue    a queue that can be read and written. Any values may be in it: trpc_queue_init takes them all, and every
- *          other function refuses a queue that is not valid with TRPC_QUEUE_INVALID.
+ * queue    a queue that can be read and written. Any values may be in it. trpc_queue_init takes them all. Every other
+ *          function refuses a queue that is not valid with TRPC_QUEUE_INVALID.
  * removed  room for a job, outside the queue. Its values before the call don't matter.
  *
  * A call that is refused changes no byte of the queue, and leaves `removed` all zero.
@@ -504,13 +534,13 @@ struct trpc_queue {
  *     }
  */
 
-/* Makes the queue one in which nothing waits: every byte of it is 0. */
+/* Makes the queue one in which nothing waits. Every byte of it is 0 then. */
 void trpc_queue_init(struct trpc_queue *queue);
 
 /*
- * Puts a job after those that wait: jobs[count], whose values before don't matter, becomes the job, with `zero` 0, and
+ * Puts a job after those that wait. jobs[count], whose values before don't matter, becomes the job, with `zero` 0, and
  * the count grows by one. The other jobs stay as they are. An arrival may be before those of jobs that were accepted
- * earlier.
+ * earlier: a clock that goes back is no fault.
  *
  * Returns a code of enum trpc_queue_error.
  */
@@ -518,8 +548,8 @@ uint32_t trpc_queue_add(struct trpc_queue *queue, uint32_t connection, uint32_t 
                         uint64_t arrival);
 
 /*
- * Removes the job that is due first: the one whose arrival plus timeout is the least, as whole numbers that don't wrap,
- * and of several such the one accepted first. A job with no deadline comes after all that have one.
+ * Removes the job that is due first. It is the one whose arrival plus timeout is the least, as whole numbers that don't
+ * wrap. Of several such it is the one accepted first. A job with no deadline comes after all that have one.
  *
  * Returns a code of enum trpc_queue_error. After 0 `removed` is the job removed, the jobs after it have moved up one,
  * the last place freed is all zero, and the count is one less. What is past the old count stays as it is.
