@@ -1,5 +1,4 @@
 -- For the layers above, each law stated once.
-pub mod Codes
 pub mod Steps
 pub mod RowLaws
 pub mod Results

@@ -83,10 +83,6 @@ badRows = 18
 abbrev pub frameOver : ℕ
 frameOver = 19
 
--- writer: "header message over 65,535"
-abbrev pub headerOver : ℕ
-headerOver = 20
-
 -- add: "64 jobs wait"
 abbrev pub queueFull : ℕ
 queueFull = 21
@@ -120,16 +116,20 @@ abbrev pub inUse : List ℕ
 inUse =
     bufferShort ∷ stateUnknown ∷ badMagic ∷ badDataType ∷ badStreamType ∷ badTotal ∷ badHeaderSize ∷ badReserved ∷ wrongFrame ∷
     badVarint ∷ badTag ∷ pastEnd ∷ tooDeep ∷ tooManyEntries ∷ badBody ∷ rowsShort ∷ pastSource ∷ badRows ∷ frameOver ∷
-    headerOver ∷ queueFull ∷ lateArrival ∷ queueEmpty ∷ badQueue ∷ pairWaits ∷ pairAbsent ∷ outputShort ∷ []
+    queueFull ∷ lateArrival ∷ queueEmpty ∷ badQueue ∷ pairWaits ∷ pairAbsent ∷ outputShort ∷ []
 
--- numbers that a later request takes out of use; no entry may give one of them again
+-- numbers that a request took out of use, rising. Document 02: "20 is never used again."
 abbrev pub retired : List ℕ
-retired = []
+retired = 20 ∷ []
 
--- no number comes twice
 abbrev pub Among : ℕ → List ℕ → Type 0
 Among n ns = Some (λ (m : ℕ). n ≡ m) ns
 
+-- the number in an answer, "0 or the refusal": 0, or one that is in use
+abbrev pub Usable : ℕ → Type 0
+Usable n = Among n (0 ∷ inUse)
+
+-- no number comes twice
 abbrev pub NoneTwice : List ℕ → Type 0
 NoneTwice [] = Unit {0}
 NoneTwice (n ∷ ns) = (Among n ns → ⊥) × NoneTwice ns

@@ -10,22 +10,17 @@
 -- Assumes nothing.
 use Prim.Native.Nat.{ℕ, _<_}
 use mathlib.Core.Path.{_≡_, refl, sym, subst}
-use mathlib.Core.Logic.{_⊎_, inl, inr}
-use mathlib.Core.List.{List, [], _∷_, _++_}
+use mathlib.Core.List.{List}
 use native.Mathlib.Omega.{arith}
-use lib.ListN.{length, take}
-use Rattle.fixed_header.specs.Header.{headerError, totalOf, parsed}
+use Rattle.fixed_header.specs.Header.{headerError, parsed}
 use Rattle.fixed_header.specs.declared.Parsed.{Parsed}
 use Rattle.fixed_header.specs.declared.Parsed.the-variants as headers
-use Rattle.decoder.specs.Fields.{Result, ok, refused}
-use Rattle.decoder.proofs.Results.{Sound, message-sound}
-use Rattle.message.specs.Frames.{headerOf, readFrame}
+use Rattle.message.specs.Frames.{readFrame}
 use Rattle.deframer.specs.Deframe.{deframed, ended}
 use Rattle.deframer.specs.declared.Progress.{Progress}
 use Rattle.deframer.specs.declared.Progress.the-variants as progress
 use Rattle.deframer.specs.declared.End.{End}
 use Rattle.deframer.specs.declared.End.the-variants as end
-use Rattle.schema.specs.Kinds.{schemaOf}
 use Rattle.schema.specs.declared.Kind.{Kind}
 use Rattle.records.specs.declared.Record.{Record}
 use Rattle.message.specs.declared.Answer.{Answer}
@@ -41,16 +36,14 @@ use Rattle.thm_c.specs.Calls.{CDeframed, CFinished, CDeframes, CFinishes
 use Rattle.thm_c.specs.RoundTrip.{CWritten, CWrites}
 use Rattle.thm_round_trip.specs.Refusals.{encodedSays, writeEntry}
 use Rattle.thm_round_trip.proofs.Exactly.{written-exactly}
-use Rattle.laws.proofs.Booleans.{clash}
-use Rattle.refusals.specs.Grounds.{Ground, ground, First, refuses, numberOf, Entry, retold, Exactly}
-use Rattle.refusals.proofs.Order.{Numbered, first-number, first-split, decided, end, unless-error, outcome-of, exactly, retold-exactly}
-use Rattle.thm_refusals.specs.Header.{faults, headerGrounds, headerCheck}
-use Rattle.thm_refusals.specs.Fields.{resultSays}
-use Rattle.thm_refusals.specs.Reader.{OfKind, fieldsRead, fieldGrounds, AttachmentLarger, answerSays, readGrounds, readEntry}
+use Rattle.refusals.specs.Grounds.{First, numberOf, Entry, retold, Exactly}
+use Rattle.refusals.proofs.Order.{Numbered, first-number, end, unless-error, outcome-of, exactly, retold-exactly}
+use Rattle.refusals.proofs.Numbers.{positive}
+use Rattle.thm_refusals.specs.Header.{headerGrounds, headerCheck}
+use Rattle.thm_refusals.specs.Reader.{answerSays, readEntry}
 use Rattle.thm_refusals.specs.Deframer.{progressSays, deframeEntry, endSays, finishEntry}
-use Rattle.thm_refusals.proofs.Header.{faults-numbered, header-numbered, header-exactly, header-check-exactly}
-use Rattle.thm_refusals.proofs.Fields.{message-decides}
-use Rattle.thm_refusals.proofs.Reader.{read-exactly}
+use Rattle.thm_refusals.proofs.Header.{header-numbered, header-exactly, header-check-exactly}
+use Rattle.thm_refusals.proofs.Reader.{read-exactly, read-in-use}
 use Rattle.thm_refusals.proofs.Deframer.{deframe-exactly, finish-exactly}
 use Rattle.thm_c.specs.Entries.{parsedC, parsedSays, parseEntry, cParseEntry, deframedC, cDeframeEntry}
 use Rattle.thm_c.specs.Entries.{finishedC, cFinishEntry, readC, cReadEntry, writtenC, cWriteEntry}
@@ -67,7 +60,7 @@ pub c-check : (h : List ℕ) (code : ℕ) → CChecks h code → Exactly (header
 c-check h code is = header-check-exactly h code is
 
 -- ---- `trpc_header_parse`
-parse-exactly : (h : List ℕ) → Exactly (parseEntry h) (parsed h)
+pub parse-exactly : (h : List ℕ) → Exactly (parseEntry h) (parsed h)
 unfolding parsed
 parse-exactly h =
     exactly (parseEntry h) (parsed h) (λ none. refl) (λ n f. refl)
@@ -83,7 +76,7 @@ c-parse h d is =
     (parse-exactly h) d (all-parsed h d is)
 
 -- ---- `trpc_deframe`
-progress-number : (p : Progress) → progressError p ≡ numberOf (progressSays p)
+pub progress-number : (p : Progress) → progressError p ≡ numberOf (progressSays p)
 progress-number (progress.Frame size) = refl
 progress-number progress.NeedMore = refl
 progress-number (progress.Refused code) = refl
@@ -140,39 +133,8 @@ answer-number (answers.Read r) = refl
 answer-number (answers.Refused code) = refl
 
 module _ (kind : Kind) (f lent : List ℕ) where
-  abbrev attachment : Ground
-  attachment = ground 15 (AttachmentLarger kind f (fieldsRead kind f))
-
-  -- no number of a ground is 0: those of the fields
-  by-fields : (v : Result) → Sound v → (n : ℕ) → resultSays v ≡ refuses n → 0 < n
-  by-fields (ok st) s n e = clash cc
-  by-fields (refused code) s n e = let same : code ≡ n = cc in omega (arith, s)
-
-  fields-positive : (n : ℕ) → First (fieldGrounds kind f) n → 0 < n
-  fields-positive n first =
-      by-fields (fieldsRead kind f) (message-sound f (schemaOf kind) 16 (headerOf kind f)) n
-      (decided (fieldGrounds kind f) (message-decides f (schemaOf kind) 16 (headerOf kind f)) n first)
-
-  last : (n : ℕ) → First (fieldGrounds kind f) n ⊎ First (attachment ∷ []) n → 0 < n
-  last n (inl first) = fields-positive n first
-  last n (inr (inl g)) = omega (arith, g .1)
-  last n (inr (inr g)) = absurd (g .1)
-
-  abbrev later : List Ground
-  later = ground 9 (length f ≡ totalOf f → ⊥) ∷ ground 9 (OfKind kind f → ⊥) ∷ (fieldGrounds kind f ++ attachment ∷ [])
-
-  middle : (n : ℕ) → First (faults (take 16 f)) n ⊎ First later n → 0 < n
-  middle n (inl first) = first-number (faults (take 16 f)) (faults-numbered (take 16 f)) n first
-  middle n (inr (inl g)) = omega (arith, g .1)
-  middle n (inr (inr (_, inl g))) = omega (arith, g .1)
-  middle n (inr (inr (_, inr g))) = last n (first-split (fieldGrounds kind f) (attachment ∷ []) n (g .1))
-
-  positive : (n : ℕ) → First (readGrounds kind f lent) n → 0 < n
-  positive n (inl g) = omega (arith, g .1)
-  positive n (inr (_, inl g)) = omega (arith, g .1)
-  positive n (inr (_, inr g)) = middle n (first-split (faults (take 16 f)) later n (g .1))
-
   pub c-read : (x : CRead) → CReads kind f lent x → Exactly (cReadEntry kind f lent) x
   c-read x reads =
-      reported (readEntry kind f lent) (readC f) (λ x. x .code) (λ x. answer-number (x .answer)) positive (readFrame kind f lent)
+      reported (readEntry kind f lent) (readC f) (λ x. x .code) (λ x. answer-number (x .answer))
+      (λ n first. positive n (read-in-use kind f lent n first)) (readFrame kind f lent)
       (read-exactly kind f lent) x (all-read kind f lent x reads)

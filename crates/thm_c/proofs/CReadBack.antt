@@ -3,7 +3,8 @@
 -- Promised, of any call of a writer that returned 0, with numbers of 32 bits, and of a call of the reader of the same kind on the frame
 -- that it wrote, with at least 256 row numbers: if each gave what its contract ensures, the reader returned 0, and its numbers say the same
 -- record with the same bytes: kind, id, each number, each present mark, the length and the bytes of each byte field, the rows in their
--- order, the header message, the body and the attachment.
+-- order, the header message, the body and the attachment (`c-read-back`). Of the writer's call alone, with any numbers: the message has
+-- 65,520 bytes at most, and bytes 9-10 hold its size, or 0 in a stream frame (`c-message-fits`).
 -- Not promised: that the starts are the same numbers (in the frame they count from its first byte), nor anything of an output that the
 -- caller changes between the calls.
 -- Ruled out: a writer that returns 0 and writes nothing, an int32 that comes back unsigned, and a length that passes the end of the frame.
@@ -23,7 +24,8 @@ use Rattle.records.specs.declared.Record.{Record}
 use Rattle.message.specs.declared.Answer.{Answer}
 use Rattle.message.specs.declared.Answer.the-variants as answers
 use Rattle.records.specs.Content.{kindOf, recordId, slotsOf}
-use Rattle.writer.specs.Writing.{Writing, refusedWith, wrote, frameOf, writeError, written, errorOf, countOf}
+use Rattle.writer.specs.Writing.{Writing, refusedWith, wrote, messageOf, frameOf, writeError, written}
+use Rattle.writer.specs.Writing.{errorOf, countOf}
 use Rattle.writer.specs.declared.Encoded.{Encoded}
 use Rattle.writer.specs.declared.Encoded.the-variants.{Frame, Refused}
 use Rattle.bekurapi.specs.Answers.{answerError}
@@ -32,8 +34,10 @@ use Rattle.wire_read.proofs.SignedLaws.{low-small}
 use Rattle.thm_c.proofs.NumbersBack.{reading-back}
 use Rattle.message.specs.Meaning.{allOf, Meaning, says, refused, meaning, answerMeaning, fieldsOf}
 use Rattle.thm_round_trip.specs.InRange.{InRange}
+use Rattle.thm_round_trip.specs.MessageFits.{MessageFits}
 use Rattle.thm_round_trip.specs.ReadsBack.{ReadsBack}
 use Rattle.thm_round_trip.proofs.RoundTrip.{round-trip}
+use Rattle.thm_round_trip.proofs.WithoutTwenty.{message-fits}
 use Rattle.thm_c.specs.Readings.{CRead, CReads, CReading, wholeOf}
 use Rattle.thm_c.specs.RoundTrip.{CWritten, CWrites, Words, CReadsBack}
 use Rattle.laws.proofs.Booleans.{choose}
@@ -109,6 +113,23 @@ coded-by r source numbers body output =
     choose CodedIn (eqb error 0) (wrote (frameOf r source numbers body) output) (refusedWith error output) (λ e. tt)
     (λ n. eqb-false error 0 n)
 
+module _ (kind : Kind) (numbers source rows body out : List ℕ) (w : CWritten) (writes : CWrites kind numbers source rows body out w)
+    (done : w .code ≡ 0) where
+  abbrev lent-record : Record
+  lent-record = recordFrom kind numbers
+
+  answer-is : written lent-record source rows body out .answer ≡ Frame (w .size)
+  answer-is =
+      framed (written lent-record source rows body out .answer) (coded-by lent-record source rows body out) (sym (writes .code-is) ∙ done)
+      ∙ ap Frame (sym (writes .size-is))
+
+  pub c-message-fits : MessageFits kind (messageOf lent-record source rows) (take (w .size) (w .out))
+  c-message-fits =
+      subst (λ (k : Kind). MessageFits k (messageOf lent-record source rows) (take (w .size) (w .out)))
+      (kind-is (getD numbers 0 0) (drop 8 numbers) (getD numbers 1 0) kind)
+      (message-fits lent-record source rows body out (record { answer = written lent-record source rows body out .answer; output = w .out })
+      (refl, writes .output-is) (w .size) answer-is)
+
 -- ---- an answer that says something is a record
 abbrev SaysRecord : Meaning → Type 0
 SaysRecord (says k id fields rows) = Unit {0}
@@ -144,18 +165,14 @@ module _ (kind : Kind) (numbers source rows body out lent : List ℕ) (words : W
   fields-small = slots-in-range source kind id fields count (word-at fields (words-drop 8 numbers words))
 
   module _ (w : CWritten) (writes : CWrites kind numbers source rows body out w) (done : w .code ≡ 0) where
-    answer-is : written r source rows body out .answer ≡ Frame (w .size)
-    answer-is =
-        framed (written r source rows body out .answer) (coded-by r source rows body out) (sym (writes .code-is) ∙ done)
-        ∙ ap Frame (sym (writes .size-is))
-
     abbrev frame : List ℕ
     frame = take (w .size) (w .out)
 
     back : ReadsBack r source rows body frame lent
     back =
         subst (λ (o : List ℕ). ReadsBack r source rows body (take (w .size) o) lent) (sym (writes .output-is))
-        (round-trip r source rows body out lent (w .size) id-small fields-small long answer-is)
+        (round-trip r source rows body out lent (w .size) id-small fields-small long
+        (answer-is kind numbers source rows body out w writes done))
 
     -- the reading as the record's own kind is that as the kind named
     as-kind : {A : Type 0} (P : Kind → A) → P kind ≡ P (kindOf r)

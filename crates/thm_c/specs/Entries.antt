@@ -91,7 +91,8 @@ readC f x = record { code = answerError (x .answer); rows = x .rows; numbers = n
 abbrev pub cReadEntry : Kind → (frame lent : List ℕ) → Entry CRead
 cReadEntry kind f lent = retold (readC f) (λ x. x .code) (readEntry kind f lent)
 
--- ---- `trpc_write_request` to `trpc_write_close`: "Writer 18's first three grounds, 17, 18's others, 15, 19, 20, 27"
+-- ---- `trpc_write_request` to `trpc_write_close`: "Writer 18's first three grounds, 17, 18's others, 15, 19, 20, 27." Document 02 took
+-- 20 out.
 abbrev pub writtenC : Writing → CWritten
 writtenC w = record { code = errorOf (w .answer); out = w .output; size = countOf (w .answer) }
 

@@ -1,7 +1,7 @@
 -- What `header-check-exactly` takes a call of `check_header` to ensure is the `ensures` of its contract: the two are the same by
 -- computation, so neither can be changed without the other. The same is said of `deframe`, `finish` and `read` in `thm_stream`, of `write`
--- in `thm_round_trip`, of the field writers in FieldWriter, of `trpc_queue_add` and its kin in `thm_queue`, and of the other functions for
--- C in `thm_c`. Of `queue::add`, `take` and `cancel` it is not: Queue repeats the equations of their contracts.
+-- in `thm_round_trip`, of the field writers in FieldWriter, of `trpc_queue_add` and its kin in `thm_queue`, of the other functions for C in
+-- `thm_c`, and of all others that give a number in `thm_numbers`.
 -- Assumes nothing.
 use Prim.Native.Nat.{ℕ}
 use mathlib.Core.Path.{_≡_, refl}

@@ -9,7 +9,7 @@ use Prim.Native.Nat.{ℕ, _<_, _≤_}
 use mathlib.Core.Path.{_≡_, refl, sym, ap, subst, _∙_}
 use mathlib.Core.Logic.{inl, inr}
 use mathlib.Core.Bool.{Bool, true, false, not, cond}
-use mathlib.Core.List.{List, _∷_}
+use mathlib.Core.List.{List, [], _∷_}
 use native.Mathlib.Omega.{arith}
 use borrow.Author.Tests.{eqb-true, eqb-false, eq-eqb, ne-eqb, ltb-true, ltb-false, lt-leb}
 use lib.Dec.{eqb, ltb, leb}
@@ -24,11 +24,14 @@ use Rattle.deframer.specs.declared.End.{End}
 use Rattle.deframer.specs.declared.End.the-variants as end
 use Rattle.fixed_header.proofs.Codes.{first-sixteen, Code, fault-code}
 use Rattle.thm_stream.specs.Trace.{Deframes, Finishes}
-use Rattle.refusals.specs.Grounds.{ground, works, refuses, Exactly}
-use Rattle.refusals.proofs.Tests.{Finds, each, missing, reworded, equal, below, up-to, found-by-choice}
+use Rattle.refusals.specs.Grounds.{Ground, ground, First, works, refuses, Exactly}
+use Rattle.refusals.specs.Numbers.{inUse, Among}
+use Rattle.refusals.proofs.Tests.{Told, Finds, found, each, missing, reworded, equal, below, up-to, found-by-choice}
 use Rattle.refusals.proofs.Order.{Outcome, end, when, passed, stopped, under-met, under-unmet, of-error, exactly}
+use Rattle.refusals.proofs.Numbers.{is-in, in-range, first-in-use}
 use Rattle.thm_refusals.specs.Header.{faults}
-use Rattle.thm_refusals.specs.Deframer.{Known, streamFaults, progressSays, deframeRefusal, cut, deframeEntry, endSays, finishEntry}
+use Rattle.thm_refusals.specs.Deframer.{Known, stateGrounds, streamFaults, progressSays, deframeRefusal, cut, deframeEntry}
+use Rattle.thm_refusals.specs.Deframer.{endSays, finishEntry}
 use Rattle.thm_refusals.proofs.Header.{faults-outcome, faults-numbered}
 
 module _ (state : Deframer) (buffer : List ℕ) where
@@ -79,6 +82,24 @@ module _ (state : Deframer) (buffer : List ℕ) where
   -- of the function itself, by its contract
   pub finish-gives : (e : End) → Finishes state buffer e → Exactly (finishEntry state buffer) e
   finish-gives e is = subst (Exactly (finishEntry state buffer)) (sym is) finish-exactly
+
+  -- ---- each number is in use, a held one too: it is that of a header
+  held-in-use : (state .error ≡ 0 → ⊥) → Known state buffer → Among (state .error) inUse
+  held-in-use n (inl k) = absurd (n (k .1))
+  held-in-use n (inr (inl k)) = absurd (n (k .1))
+  held-in-use n (inr (inr k)) = in-range 3 6 (state .error) refl (k .2) (omega (arith, k .3))
+
+  pub state-in-use : (later : List Ground) → ((n : ℕ) → First later n → Among n inUse) → (n : ℕ)
+      → First (stateGrounds state buffer later) n → Among n inUse
+  state-in-use later used n (inl g) = rw (g .1) (is-in 1 inUse refl)
+  state-in-use later used n (inr (_, inl g)) = rw (g .1) (is-in 2 inUse refl)
+  state-in-use later used n (inr (_, inr (k, inl g))) =
+      let holds : Known state buffer = subst (λ (b : Bool). Told b (Known state buffer)) (found known k) (known .told) in
+      rw (g .1) (held-in-use (g .0) holds)
+  state-in-use later used n (inr (_, inr (k, inr g))) = used n (g .1)
+
+  pub finish-in-use : (n : ℕ) → First (finishEntry state buffer .grounds) n → Among n inUse
+  finish-in-use = state-in-use [] (λ n f. absurd f)
 
 -- ---- the deframer
 module _ (state : Deframer) (buffer piece : List ℕ) where
@@ -174,3 +195,6 @@ module _ (state : Deframer) (buffer piece : List ℕ) where
       all =
           ap (λ (x : Step). record { step = x; buffer = o .buffer }) (is .0)
           ∙ ap (λ (x : List ℕ). record { step = deframed state buffer piece .step; buffer = x }) (is .1)
+
+  pub deframe-in-use : (n : ℕ) → First (deframeEntry state buffer piece .grounds) n → Among n inUse
+  deframe-in-use = state-in-use state buffer (streamFaults s) (first-in-use (streamFaults s) refl)

@@ -33,14 +33,7 @@ use Rattle.wire_write.proofs.write_bytes as write-bytes
 use Rattle.refusals.specs.Grounds.{Exactly}
 use Rattle.refusals.proofs.Tests.{Finds, each, unlike, below, at-most}
 use Rattle.refusals.proofs.Order.{Outcome, end, unless, exactly}
-use Rattle.thm_refusals.specs.FieldWriter.{FieldWriting, untouchedOutput, wholeWritten, rawEntry, tagEntry}
-
--- what a contract of `wire_write` says of its answer and its output
-abbrev pub Raw : (out : List ℕ) → (at : ℕ) → (x : List ℕ) → FieldWriting → Type 0
-Raw out at x r = (r .answer ≡ writtenAt out at x) × (r .output ≡ stored out at x)
-
-abbrev pub Tagged : (n w : ℕ) → (out : List ℕ) → (at : ℕ) → (x : List ℕ) → FieldWriting → Type 0
-Tagged n w out at x r = (r .answer ≡ tagWritten n w out at x) × (r .output ≡ tagStored n w out at x)
+use Rattle.thm_refusals.specs.FieldWriter.{FieldWriting, untouchedOutput, wholeWritten, rawEntry, tagEntry, Raw, Tagged}
 
 both-are : (r : FieldWriting) {a : Written} {o : List ℕ} → r .answer ≡ a → r .output ≡ o
     → r ≡ record { answer = a; output = o }

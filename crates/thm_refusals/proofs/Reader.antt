@@ -9,7 +9,7 @@
 -- Assumes nothing.
 use Prim.Native.Nat.{ℕ, _<_, _≤_}
 use mathlib.Core.Path.{_≡_, refl, sym, subst}
-use mathlib.Core.Logic.{inl, inr}
+use mathlib.Core.Logic.{_⊎_, inl, inr}
 use mathlib.Core.Bool.{Bool, true, false, cond, _&&_}
 use mathlib.Core.List.{List, [], _∷_, _++_}
 use native.Mathlib.Omega.{arith}
@@ -17,24 +17,26 @@ use borrow.Author.Tests.{eq-eqb, le-leb, lt-leb}
 use lib.Dec.{eqb, leb}
 use lib.ListN.{length, take, getD}
 use Rattle.laws.proofs.Booleans.{clash}
-use Rattle.fixed_header.specs.Header.{faultOf, totalOf, idOf}
+use Rattle.fixed_header.specs.Header.{faultOf, totalOf}
 use Rattle.fixed_header.proofs.Codes.{first-sixteen, Code, fault-code}
 use Rattle.decoder.specs.Rows.{rowNumbers}
 use Rattle.decoder.specs.Fields.{Result, ok, refused}
 use Rattle.decoder.proofs.Results.{Sound, message-sound}
 use Rattle.schema.specs.Kinds.{schemaOf}
-use Rattle.records.specs.Records.{recordOf, attachmentSizeOf}
+use Rattle.records.specs.Records.{attachmentSizeOf}
 use Rattle.message.specs.Frames.{Reading, headerOf, bodyOf, kindFits, refusedUntouched, refusedCleared, withAttachment, answered, readFrame}
 use Rattle.schema.specs.declared.Kind.{Kind}
 use Rattle.schema.specs.declared.Kind.the-variants as kinds
 use Rattle.thm_stream.specs.Trace.{Reads}
 use Rattle.thm_stream.proofs.Traced.{all-read}
-use Rattle.refusals.specs.Grounds.{Ground, ground, works, refuses, Exactly}
+use Rattle.refusals.specs.Grounds.{Ground, ground, First, works, refuses, Exactly}
+use Rattle.refusals.specs.Numbers.{inUse, Among}
 use Rattle.refusals.proofs.Tests.{Finds, each, unlike, equal, below, at-most}
-use Rattle.refusals.proofs.Order.{Outcome, end, when, when-not, unless, unless-two, unless-error, followed, exactly}
+use Rattle.refusals.proofs.Order.{Outcome, end, when, when-not, unless, unless-two, unless-error, followed, exactly, first-split, decided}
+use Rattle.refusals.proofs.Numbers.{in-range, first-in-use}
 use Rattle.thm_refusals.specs.Header.{byte, faults}
 use Rattle.thm_refusals.specs.Reader.{OfKind, fieldGrounds, fieldsRead, stateRead, AttachmentLarger}
-use Rattle.thm_refusals.specs.Reader.{answerSays, readRefusal, readWork, readEntry}
+use Rattle.thm_refusals.specs.Reader.{answerSays, readRefusal, readWork, readGrounds, readEntry}
 use Rattle.thm_refusals.specs.Fields.{resultSays}
 use Rattle.thm_refusals.proofs.Header.{faults-outcome, faults-numbered}
 use Rattle.thm_refusals.proofs.Fields.{message-decides}
@@ -111,3 +113,33 @@ module _ (kind : Kind) (f lent : List ℕ) where
   -- of the function itself, by its contract
   pub read-gives : (x : Reading) → Reads kind f lent x → Exactly (readEntry kind f lent) x
   read-gives x is = subst (Exactly (readEntry kind f lent)) (sym (all-read kind f lent x is)) read-exactly
+
+  -- ---- each number is in use
+  by-fields : (x : Result) → Sound x → (n : ℕ) → resultSays x ≡ refuses n → Among n inUse
+  by-fields (ok st) s n e = clash cc
+  by-fields (refused code) s n e = let same : code ≡ n = cc in rw (← same) (in-range 10 5 code refl (s .0) (omega (arith, s .1)))
+
+  fields-in-use : (n : ℕ) → First (fieldGrounds kind f) n → Among n inUse
+  fields-in-use n first =
+      by-fields (fieldsRead kind f) (message-sound f (schemaOf kind) 16 (headerOf kind f)) n
+      (decided (fieldGrounds kind f) (message-decides f (schemaOf kind) 16 (headerOf kind f)) n first)
+
+  abbrev attachment : List Ground
+  attachment = ground 15 (AttachmentLarger kind f (fieldsRead kind f)) ∷ []
+
+  abbrev before-fields : List Ground
+  before-fields =
+      ground 16 (length lent < rowNumbers)
+      ∷ ground 9 (length f < 16)
+      ∷ (faults (take 16 f) ++ ground 9 (length f ≡ totalOf f → ⊥) ∷ ground 9 (OfKind kind f → ⊥) ∷ [])
+
+  last : (n : ℕ) → First (fieldGrounds kind f) n ⊎ First attachment n → Among n inUse
+  last n (inl first) = fields-in-use n first
+  last n (inr first) = first-in-use attachment refl n first
+
+  pub read-in-use : (n : ℕ) → First (readGrounds kind f lent) n → Among n inUse
+  read-in-use n first = by (first-split before-fields (fieldGrounds kind f ++ attachment) n first)
+    where
+      by : First before-fields n ⊎ First (fieldGrounds kind f ++ attachment) n → Among n inUse
+      by (inl before) = first-in-use before-fields refl n before
+      by (inr later) = last n (first-split (fieldGrounds kind f) attachment n later)

@@ -2,8 +2,10 @@
 -- here, than what is to be written. The order is the one in which a tag and its room come: 11, then 27.
 -- Assumes nothing.
 use Prim.Native.Nat.{ℕ, _+_, _*_, _^_, _<_}
+use mathlib.Core.Path.{_≡_}
 use mathlib.Core.List.{List, [], _∷_, _++_}
 use lib.ListN.{length, take, drop}
+use Rattle.wire_write.specs.Writing.{stored, writtenAt, tagStored, tagWritten}
 use Rattle.wire_write.specs.declared.Written.{Written}
 use Rattle.wire_write.specs.declared.Written.the-variants as writes
 use Rattle.refusals.specs.Grounds.{ground, Verdict, refuses, works, Entry}
@@ -51,3 +53,10 @@ tagEntry n w out at x =
       refusal = untouchedOutput out;
       work = wholeWritten out at x;
     }
+
+-- ---- what a contract of `wire_write` says of its answer and its output
+abbrev pub Raw : (out : List ℕ) → (at : ℕ) → (x : List ℕ) → FieldWriting → Type 0
+Raw out at x r = (r .answer ≡ writtenAt out at x) × (r .output ≡ stored out at x)
+
+abbrev pub Tagged : (n w : ℕ) → (out : List ℕ) → (at : ℕ) → (x : List ℕ) → FieldWriting → Type 0
+Tagged n w out at x r = (r .answer ≡ tagWritten n w out at x) × (r .output ≡ tagStored n w out at x)

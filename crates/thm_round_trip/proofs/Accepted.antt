@@ -19,7 +19,7 @@ use Rattle.records.specs.declared.Record.{Record}
 use Rattle.records.specs.Content.{kindOf, rowCount, slotsOf}
 use Rattle.writer_checks.specs.Grounds.{hasMap, bodyOk, contentError}
 use Rattle.writer_checks.proofs.Accepted as content
-use Rattle.writer.specs.Writing.{messageOf, frameOf, sizeError, writeError, wrote, refusedWith}
+use Rattle.writer.specs.Writing.{frameOf, sizeError, writeError, wrote, refusedWith}
 use Rattle.writer.specs.declared.Encoded.the-variants.{Frame}
 use Rattle.thm_round_trip.proofs.Said.{hasRows, keptRows}
 
@@ -40,9 +40,8 @@ pub write-accepted : (r : Record) (source numbers body : List ℕ) (room : ℕ) 
 unfolding writeError sizeError
 write-accepted r source numbers body room e =
     let total = length (frameOf r source numbers body) in
-    let size = length (messageOf r source numbers) in
     let code = contentError (kindOf r) (slotsOf r) (rowCount r) source numbers (length body) in
-    let none = no-code code (sizeError size total room) e in
+    let none = no-code code (sizeError total room) e in
     record {
       content = content.accepted (kindOf r) (slotsOf r) (rowCount r) source numbers (length body) (none .0);
       small = leb-true _ _ (kept (leb total maxFrame) 19 _ (omega arith) (none .1) .0);

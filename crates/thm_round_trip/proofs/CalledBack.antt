@@ -30,7 +30,7 @@ use Rattle.thm_round_trip.proofs.Held.{held-in-range}
 use Rattle.thm_round_trip.proofs.Exactly.{written-exactly}
 
 -- a contract that gives the answer and the output gives all
-all-written : (r : Record) (source numbers body output : List ℕ) (w : Writing) → Writes r source numbers body output w
+pub all-written : (r : Record) (source numbers body output : List ℕ) (w : Writing) → Writes r source numbers body output w
     → w ≡ written r source numbers body output
 all-written r source numbers body output w e =
     ap (λ (a : Encoded). record { answer = a; output = w .output }) (e .0)

@@ -7,7 +7,7 @@
 -- Ruled out: a writer that refuses a record of 64 rows, one that refuses every record, and one that gives 19 where the attachment is larger
 -- than the body, too.
 -- Assumes nothing.
-use Prim.Native.Nat.{ℕ, _*_, _<_}
+use Prim.Native.Nat.{ℕ, _*_}
 use mathlib.Core.Path.{refl}
 use mathlib.Core.List.{List}
 use native.Mathlib.Omega.{arith}
@@ -15,21 +15,20 @@ use lib.ListN.{length, take}
 use Rattle.fixed_header.specs.Header.{maxFrame}
 use Rattle.records.specs.Records.{attachmentSizeOf}
 use Rattle.records.specs.declared.Record.{Record}
-use Rattle.records.specs.Content.{kindOf, recordId, rowCount, slotsOf}
+use Rattle.records.specs.Content.{kindOf, rowCount, slotsOf}
 use Rattle.writer_checks.specs.Grounds.{maxRows, hasMap, rowsOk, contentError}
-use Rattle.writer.specs.Writing.{rowsOf, messageOf, frameOf, maxHeader, sizeError, writeError, written}
+use Rattle.writer.specs.Writing.{rowsOf, frameOf, sizeError, writeError, written}
 use Rattle.refusals.specs.Grounds.{Ground, Exactly}
 use Rattle.refusals.proofs.Tests.{at-most, none-unless}
 use Rattle.refusals.proofs.Order.{Outcome, Numbered, end, unless, unless-two, unless-three, unless-error, exactly}
 use Rattle.thm_round_trip.specs.Refusals.{hasBody, writeGrounds, writeEntry}
-use Rattle.thm_round_trip.proofs.FrameBack.{frame-length}
 use Rattle.thm_round_trip.proofs.GroundTests.{spans-ok, rows-ok, keys-ok, parts-ok, body-tests}
 
 -- those that `contentError` looks for: all before 19
-abbrev groundsBefore19 : Record → (source numbers body : List ℕ) → (room : ℕ) → List Ground
+abbrev pub groundsBefore19 : Record → (source numbers body : List ℕ) → (room : ℕ) → List Ground
 groundsBefore19 r source numbers body room = take 9 (writeGrounds r source numbers body room)
 
-content-outcome : (r : Record) (source numbers body : List ℕ) (room : ℕ)
+pub content-outcome : (r : Record) (source numbers body : List ℕ) (room : ℕ)
     → Outcome (groundsBefore19 r source numbers body room) (λ n. n) 0
     (contentError (kindOf r) (slotsOf r) (rowCount r) source numbers (length body))
 unfolding contentError rowsOk
@@ -53,9 +52,8 @@ write-outcome r source numbers body room =
     (contentError (kindOf r) (slotsOf r) (rowCount r) source numbers (length body)) (search arith depth 20)
     (content-outcome r source numbers body room)
     (unless (at-most frame maxFrame)
-    (unless (at-most (length (messageOf r source numbers)) maxHeader)
     (unless (at-most frame room)
-    end)))
+    end))
 
 grounds-numbered : (r : Record) (source numbers body : List ℕ) (room : ℕ) → Numbered (writeGrounds r source numbers body room)
 grounds-numbered r source numbers body room = search arith depth 20
@@ -67,9 +65,3 @@ written-exactly r source numbers body output =
     exactly (writeEntry r source numbers body output) (written r source numbers body output) (λ none. refl) (λ n f. refl)
     (unless-error (writeGrounds r source numbers body room) (writeError r source numbers body room)
     (grounds-numbered r source numbers body room) (write-outcome r source numbers body room) end)
-
--- 20 is never given: its ground is one of 19's, which comes before it.
-pub nineteen-first : (r : Record) (source numbers body : List ℕ) → maxHeader < length (messageOf r source numbers)
-    → maxFrame < length (frameOf r source numbers body)
-unfolding frameOf
-nineteen-first r source numbers body h = omega (arith, frame-length (kindOf r) (recordId r) (messageOf r source numbers) body)

@@ -1,6 +1,7 @@
 -- The theorems of demand 2: what is written reads back, when nothing is written, and that what is read lies within the frame
 pub mod RoundTrip
 pub mod Exactly
+pub mod WithoutTwenty
 pub mod ReadWithin
 -- The same of the functions themselves, and that what they take a call to ensure is what the contract says
 pub mod CalledBack

@@ -3,6 +3,8 @@ pub mod InRange
 pub mod ReadsBack
 -- what it refuses
 pub mod Refusals
+-- how large a message it accepts
+pub mod MessageFits
 -- and that all that a reading hands out lies within the frame
 pub mod Lies
 pub mod ReadWithin

@@ -17,7 +17,7 @@ use Rattle.records.specs.declared.Record.{Record}
 use Rattle.records.specs.declared.Record.the-variants as records
 use Rattle.records.specs.Content.{kindOf, rowCount, bits, slotsOf}
 use Rattle.writer_checks.specs.Grounds.{maxRows, hasMap}
-use Rattle.writer.specs.Writing.{rowsOf, messageOf, frameOf, maxHeader, Writing, refusedWith, wrote}
+use Rattle.writer.specs.Writing.{rowsOf, frameOf, Writing, refusedWith, wrote}
 use Rattle.writer.specs.declared.Encoded.{Encoded}
 use Rattle.writer.specs.declared.Encoded.the-variants.{Frame, Refused}
 use Rattle.refusals.specs.Grounds.{Ground, ground, Some, Verdict, refuses, works, Entry}
@@ -92,7 +92,7 @@ hasBody kinds.Close = false
 
 -- ---- the writer's grounds
 
--- "Writer 18's first three grounds, 17, 18's others, 15, 19, 20, 27."
+-- "Writer 18's first three grounds, 17, 18's others, 15, 19, 20, 27." Document 02 took 20 out.
 abbrev pub writeGrounds : Record → (source numbers body : List ℕ) → (room : ℕ) → List Ground
 writeGrounds r source numbers body room =
     -- "over 64 rows, rows with Feedback or Data, row slice too short for them"
@@ -106,9 +106,8 @@ writeGrounds r source numbers body room =
     -- "attachment larger than body; writer: a body with Init, Feedback or Close"
     ∷ ground 15 (length body < attachmentSizeOf (kindOf r) (slotsOf r))
     ∷ ground 15 ((hasBody (kindOf r) ≡ false) × (0 < length body))
-    -- "frame over 65,536"; "header message over 65,535"; "output shorter than the frame"
+    -- "frame over 65,536"; "output shorter than the frame"
     ∷ ground 19 (maxFrame < length (frameOf r source numbers body))
-    ∷ ground 20 (maxHeader < length (messageOf r source numbers))
     ∷ ground 27 (room < length (frameOf r source numbers body))
     ∷ []
 

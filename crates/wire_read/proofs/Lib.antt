@@ -2,6 +2,7 @@
 pub mod PartLaws
 pub mod Cases
 pub mod Bounds
+pub mod Codes
 pub mod Ranges
 pub mod Fuel
 pub mod Local

@@ -1,6 +1,6 @@
 -- What `write_content` answers of a content that has no error is what `written` says of its record.
 use Prim.Native.Nat.{ℕ, _+_, _≤_}
-use mathlib.Core.Path.{_≡_, refl, sym, _∙_}
+use mathlib.Core.Path.{_≡_, sym, _∙_}
 use mathlib.Core.List.{List, _++_}
 use lib.ListN.{length, drop, length-append}
 use lib.Dec.{leb, eqb}
@@ -14,7 +14,7 @@ use Rattle.fixed_header.proofs.RoundTrip.{sixteen-bytes}
 use Rattle.wire_write.specs.Writing.{stored}
 use Rattle.records.specs.declared.Record.{Record}
 use Rattle.records.specs.Content.{kindOf, recordId, rowCount, slotsOf}
-use Rattle.writer.specs.Writing.{headerFor, maxHeader, messageOf, frameOf, sizeError, writeError, written}
+use Rattle.writer.specs.Writing.{headerFor, messageOf, frameOf, sizeError, writeError, written}
 use Rattle.writer_checks.specs.Grounds.{contentError}
 use Rattle.writer.specs.Items.{Puts, messageIn, frameWith, writtenWith}
 use Rattle.writer.specs.declared.Encoded.the-variants.{Frame, Refused}
@@ -32,23 +32,22 @@ module _ (r : Record) (source numbers body : List ℕ) where
       → writeError r source numbers body room
       ≡ unless (eqb (contentError (kindOf r) (slotsOf r) (rowCount r) source numbers (length body)) 0)
       (contentError (kindOf r) (slotsOf r) (rowCount r) source numbers (length body))
-      (sizeError (length (messageOf r source numbers)) (16 + length (messageOf r source numbers) + length body) room)
+      (sizeError (16 + length (messageOf r source numbers) + length body) room)
   unfolding writeError
   error-is room = rw frame-length
 
 -- ---- what is answered
 
 -- no size is refused
-pub no-error : (size total room : ℕ) → sizeError size total room ≡ 0 → (total ≤ maxFrame) × (size ≤ maxHeader) × (total ≤ room)
+pub no-error : (total room : ℕ) → sizeError total room ≡ 0 → (total ≤ maxFrame) × (total ≤ room)
 unfolding sizeError
-no-error size total room e =
+no-error total room e =
     let a = kept (leb total maxFrame) 19 _ (omega arith) e in
-    let b = kept (leb size maxHeader) 20 _ (omega arith) (a .1) in
-    let c = kept (leb total room) 27 0 (omega arith) (b .1) in
-    (leb-true _ _ (a .0), leb-true _ _ (b .0), leb-true _ _ (c .0))
+    let b = kept (leb total room) 27 0 (omega arith) (a .1) in
+    (leb-true _ _ (a .0), leb-true _ _ (b .0))
 
 module _ (c : Content) (header body output : List ℕ) (e : ℕ)
-    (is-e : e ≡ sizeError (length header) (16 + length header + length body) (length output)) where
+    (is-e : e ≡ sizeError (16 + length header + length body) (length output)) where
   pub refused-size : (e ≡ 0 → ⊥)
       → (Refused e ≡ writtenWith c header body output .answer) × (output ≡ writtenWith c header body output .output)
   refused-size h = (rw (← is-e, ne-eqb e 0 h), rw (← is-e, ne-eqb e 0 h))
@@ -63,8 +62,8 @@ module _ (c : Content) (header body output : List ℕ) (e : ℕ)
   unfolding stored
   framed h {r} {after} p =
       let fits : length (frameWith c header body) ≤ length output =
-      omega (arith, with-length, no-error (length header) (16 + length header + length body) (length output) (sym is-e ∙ h)) in
-      let none : sizeError (length header) (16 + length header + length body) (length output) ≡ 0 = sym is-e ∙ h in
+      omega (arith, with-length, no-error (16 + length header + length body) (length output) (sym is-e ∙ h)) in
+      let none : sizeError (16 + length header + length body) (length output) ≡ 0 = sym is-e ∙ h in
       let from-start : 0 + length (frameWith c header body) ≡ length (frameWith c header body) = omega arith in
       let here : after ≡ frameWith c header body ++ drop (length (frameWith c header body)) output =
       rw (from-start, le-leb (length (frameWith c header body)) (length output) fits) at (p .bytes) in
@@ -87,6 +86,6 @@ module _ (r : Record) (source numbers body output : List ℕ) (c : Content)
   unfolding frameOf
   accepted-content h =
       let same : writeError r source numbers body (length output)
-      ≡ sizeError (length (messageOf r source numbers)) (16 + length (messageOf r source numbers) + length body) (length output) =
+      ≡ sizeError (16 + length (messageOf r source numbers) + length body) (length output) =
       error-is r source numbers body (length output) ∙ rw (← of-record, h) in
       rw (same, is-c .0, is-c .1, is-c .2, is-c .3)

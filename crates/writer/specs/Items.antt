@@ -170,9 +170,9 @@ messageIn c source numbers = putFields source (rowsIn (c .rows) numbers) (schema
 abbrev pub frameWith : Content → (header body : List ℕ) → List ℕ
 frameWith c header body = fixedHeader (headerFor (c .kind) (c .id) header body) ++ header ++ body
 
--- it has no ground that needs no size: 19, 20, 27, or the frame
+-- it has no ground that needs no size: 19, 27, or the frame
 abbrev pub writtenWith : Content → (header body output : List ℕ) → Writing
 writtenWith c header body output =
-    cond (eqb (sizeError (length header) (16 + length header + length body) (length output)) 0)
+    cond (eqb (sizeError (16 + length header + length body) (length output)) 0)
     (wrote (frameWith c header body) output)
-    (refusedWith (sizeError (length header) (16 + length header + length body) (length output)) output)
+    (refusedWith (sizeError (16 + length header + length body) (length output)) output)

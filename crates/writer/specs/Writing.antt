@@ -65,20 +65,17 @@ frameOf r source numbers body =
     fixedHeader (headerFor (kindOf r) (recordId r) (messageOf r source numbers) body) ++ messageOf r source numbers ++ body
 
 -- ---- the refusals
--- "header message over 65,535"
-abbrev pub maxHeader : ℕ
-maxHeader = 65535
+-- "frame over 65,536", "output shorter than the frame": by the sizes of frame and output
+unfoldable pub sizeError : (total room : ℕ) → ℕ
+sizeError total room = unless (leb total maxFrame) 19 (unless (leb total room) 27 0)
 
--- "frame over 65,536", "header message over 65,535", "output shorter than the frame": by the sizes of message, frame and output
-unfoldable pub sizeError : (size total room : ℕ) → ℕ
-sizeError size total room = unless (leb total maxFrame) 19 (unless (leb size maxHeader) 20 (unless (leb total room) 27 0))
-
--- "Writer 18's first three grounds, 17, 18's others, 15" (crate `writer_checks`), "19, 20, 27": the first that holds, 0 for none
+-- "Writer 18's first three grounds, 17, 18's others, 15" (crate `writer_checks`), "19, 27" (document 02, P9: "20 is never used again"): the
+-- first that holds, 0 for none
 unfoldable pub writeError : Record → (source numbers body : List ℕ) → (room : ℕ) → ℕ
 writeError r source numbers body room =
     unless (eqb (contentError (kindOf r) (slotsOf r) (rowCount r) source numbers (length body)) 0)
     (contentError (kindOf r) (slotsOf r) (rowCount r) source numbers (length body))
-    (sizeError (length (messageOf r source numbers)) (length (frameOf r source numbers body)) room)
+    (sizeError (length (frameOf r source numbers body)) room)
 
 -- ---- writing
 pub record Writing : Type 0 where

@@ -11,7 +11,6 @@ use fixed_header::MAX_FRAME;
 use fixed_header::put_header;
 use records::Content;
 use refusals::FRAME_OVER;
-use refusals::HEADER_OVER;
 use refusals::OUTPUT_SHORT;
 use schema::Kind;
 use schema::schema_number;
@@ -21,13 +20,10 @@ ghost use Prim.Native.Nat.{_+_, _≤_};
 ghost use lib.ListN.{length};
 ghost use Rattle.fixed_header.specs.Header.{maxFrame};
 ghost use Rattle.decoder.specs.Rows.{rowsIn};
-ghost use Rattle.writer.specs.Writing.{frameTypeOf, headerSize, maxHeader, sizeError};
+ghost use Rattle.writer.specs.Writing.{frameTypeOf, headerSize, sizeError};
 ghost use Rattle.schema.specs.Kinds.{schemaNumber};
 ghost use Rattle.writer.specs.Items.{sizesOf, messageWithin, mostMessage, SizeOf, Puts};
 ghost use Rattle.writer.specs.Items.{Lent, RowsIn, messageIn, frameWith, writtenWith};
-
-// "header message over 65,535"
-const MAX_HEADER: usize = 65535;
 
 // The size of a frame; of one that is over 65,536, some size that is over it. Such a sum could pass what a number holds.
 fn frame_size(size: usize, body: usize) -> usize
@@ -40,17 +36,14 @@ fn frame_size(size: usize, body: usize) -> usize
     HEADER + size + body
 }
 
-// 19: the frame; 20: the header message; 27: the output. 0 for none.
+// 19: the frame; 27: the output. 0 for none.
 fn size_error(size: usize, body: usize, room: usize) -> u32
     requires { ⌜ size ≤ mostMessage ⌝ }
-    ensures { λ r. ⌜ r ≡ sizeError size (16 + size + body) room ⌝ }
+    ensures { λ r. ⌜ r ≡ sizeError (16 + size + body) room ⌝ }
 {
     let total = frame_size(size, body);
     if total > MAX_FRAME {
         return FRAME_OVER;
-    }
-    if size > MAX_HEADER {
-        return HEADER_OVER;
     }
     if room < total {
         return OUTPUT_SHORT;
@@ -95,7 +88,7 @@ fn put_frame(
 ) -> usize
     requires { ⌜ RowsIn (c .rows) (now source) (now rows)
         × (messageWithin (length (now source)) (c .values) (schemaNumber (c .kind)) ≡ true)
-        × (sizes ≡ sizesOf (rowsIn (c .rows) (now rows)) (c .values) (schemaNumber (c .kind))) × (sizes .message ≤ maxHeader)
+        × (sizes ≡ sizesOf (rowsIn (c .rows) (now rows)) (c .values) (schemaNumber (c .kind)))
         × (16 + sizes .message + length (now body) ≤ maxFrame) × (16 + sizes .message + length (now body) ≤ length (now out)) ⌝ }
     ensures { λ r. ⌜ Puts (frameWith c (messageIn c (now (source .entry)) (now (rows .entry))) (now (body .entry)))
         (now (out .entry)) 0 r (now (out .exit)) ⌝ }

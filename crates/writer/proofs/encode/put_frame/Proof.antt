@@ -11,7 +11,7 @@ use Rattle.fixed_header.specs.Put.{fixedHeader, headerPut}
 use Rattle.fixed_header.specs.declared.FixedHeader.{FixedHeader}
 use Rattle.fixed_header.specs.declared.FrameType.{FrameType}
 use Rattle.fixed_header.proofs.RoundTrip.{sixteen-bytes}
-use Rattle.writer.specs.Writing.{frameTypeOf, headerSize, headerFor, maxHeader}
+use Rattle.writer.specs.Writing.{frameTypeOf, headerSize, headerFor}
 use Rattle.schema.specs.Kinds.{schemaNumber}
 use Rattle.wire_write.specs.Writing.{stored, writtenAt}
 use Rattle.wire_write.specs.declared.Written.{Written}
@@ -27,7 +27,7 @@ use Rattle.writer.proofs.encode.put_frame.Tie as tie
 
 module _ (c : Content) (source numbers body out : List ℕ) (sizes : Sizes)
     (pre : RowsIn (c .rows) source numbers × (messageWithin (length source) (c .values) (schemaNumber (c .kind)) ≡ true)
-    × (sizes ≡ sizesOf (rowsIn (c .rows) numbers) (c .values) (schemaNumber (c .kind))) × (sizes .message ≤ maxHeader)
+    × (sizes ≡ sizesOf (rowsIn (c .rows) numbers) (c .values) (schemaNumber (c .kind)))
     × (16 + sizes .message + length body ≤ maxFrame) × (16 + sizes .message + length body ≤ length out))
     (types : FrameType) (is-types : types ≡ frameTypeOf (c .kind)) (size : ℕ) (is-size : size ≡ headerSize types (sizes .message)) where
   abbrev message : List ℕ
@@ -52,7 +52,7 @@ module _ (c : Content) (source numbers body out : List ℕ) (sizes : Sizes)
   room : length (frameWith c message body) ≤ length out
   room =
       rw (whole, length-append (fixedHeader fixed) (message ++ body), length-append message body, sixteen-bytes fixed)
-      (omega (arith, long, pre .5))
+      (omega (arith, long, pre .4))
 
   all : Left (fixedHeader fixed ++ (message ++ body)) (frameWith c message body) out 0 out 0
   all = rw (← whole) (starts (frameWith c message body) out 0 (omega (arith, room)))
@@ -60,16 +60,16 @@ module _ (c : Content) (source numbers body out : List ℕ) (sizes : Sizes)
   module _ {i : ℕ} {out₁ : List ℕ} (one : (i ≡ headerPut fixed out .count) × (out₁ ≡ headerPut fixed out .output)) (schema : ℕ)
       (is-schema : schema ≡ schemaNumber (c .kind)) where
     left : Left (message ++ body) (frameWith c message body) out 0 out₁ i
-    left = steps (fixedHeader fixed) (message ++ body) all (header-put fixed out (omega (arith, pre .5)) one)
+    left = steps (fixedHeader fixed) (message ++ body) all (header-put fixed out (omega (arith, pre .4)) one)
 
     put-is : putMessage source (rowsIn (c .rows) numbers) (c .values) schema ≡ message
     put-is = ap (putMessage source (rowsIn (c .rows) numbers) (c .values)) is-schema
         ∙ message-put source (rowsIn (c .rows) numbers) (c .values) (c .kind)
 
-    message-fits : RowsIn (c .rows) source numbers × (messageWithin (length source) (c .values) schema ≡ true)
+    message-room : RowsIn (c .rows) source numbers × (messageWithin (length source) (c .values) schema ≡ true)
         × (sizes ≡ sizesOf (rowsIn (c .rows) numbers) (c .values) schema)
         × (i + length (putMessage source (rowsIn (c .rows) numbers) (c .values) schema) ≤ length out₁)
-    message-fits =
+    message-room =
         (pre .0, rw is-schema (pre .1), rw is-schema (pre .2), rw put-is (first-fits message body left))
 
     module _ {j : ℕ} {out₂ : List ℕ} (two : Puts (putMessage source (rowsIn (c .rows) numbers) (c .values) schema) out₁ i j out₂) where
@@ -87,7 +87,7 @@ put-message-requires c κs =
     let at-type = at-size .before .before in
     let start = at-type .before .before .before .before .before in
     let args = start .args in
-    message-fits (args .c) (args .source .now) (args .rows .now) (args .body .now) (args .out .now) (args .sizes) (start .pre) _
+    message-room (args .c) (args .source .now) (args .rows .now) (args .body .now) (args .out .now) (args .sizes) (start .pre) _
     (at-type .frame-type .ensures) _ (at-size .header-size .ensures) (at-put-header .put-header .ensures) _
     (c .before .schema-number .ensures)
 

@@ -42,33 +42,16 @@ returns-2 c =
     let args = at-size .before .args in
     let total = 16 + args .size + args .body in
     let is = same total _ (at-size .frame-size .ensures) (omega arith) in
-    rw (le-leb total 65536 (omega (arith, is)), lt-leb (args .size) 65535 (omega arith))
+    rw (le-leb total 65536 (omega (arith, is)), lt-leb total (args .room) (omega (arith, is)))
 
 returns-3 : tie.Need-returns-3
 unfolding sizeError
 returns-3 c =
-    let at-size = c .before .before .before in
+    let at-size = c .before .before in
     let args = at-size .before .args in
     let total = 16 + args .size + args .body in
     let is = same total _ (at-size .frame-size .ensures) (omega arith) in
-    rw (
-      le-leb total 65536 (omega (arith, is)),
-      le-leb (args .size) 65535 (omega arith),
-      lt-leb total (args .room) (omega (arith, is)),
-    )
-
-returns-4 : tie.Need-returns-4
-unfolding sizeError
-returns-4 c =
-    let at-size = c .before .before .before in
-    let args = at-size .before .args in
-    let total = 16 + args .size + args .body in
-    let is = same total _ (at-size .frame-size .ensures) (omega arith) in
-    rw (
-      le-leb total 65536 (omega (arith, is)),
-      le-leb (args .size) 65535 (omega arith),
-      le-leb total (args .room) (omega (arith, is)),
-    )
+    rw (le-leb total 65536 (omega (arith, is)), le-leb total (args .room) (omega (arith, is)))
 
 pub size-error-spec : {M : Type 1} → statement M
-size-error-spec = tie.close (tie.spec (λ c κs. search needs) returns returns-2 returns-3 returns-4)
+size-error-spec = tie.close (tie.spec (λ c κs. search needs) returns returns-2 returns-3)

@@ -6,7 +6,7 @@ use mathlib.Core.List.{List}
 use lib.ListN.{length}
 use Rattle.fixed_header.specs.Header.{maxFrame}
 use Rattle.decoder.specs.Rows.{rowsIn}
-use Rattle.writer.specs.Writing.{maxHeader, sizeError}
+use Rattle.writer.specs.Writing.{sizeError}
 use Rattle.schema.specs.Kinds.{schemaNumber}
 use Rattle.writer.specs.Items.{sizesOf, messageWithin, Lent, RowsIn, messageIn}
 use Rattle.records.specs.declared.Content.{Content}
@@ -22,19 +22,19 @@ module _ (c : Content) (source numbers body out : List ℕ)
     × (messageWithin (length source) (c .values) (schemaNumber (c .kind)) ≡ true))
     (schema : ℕ) (is-schema : schema ≡ schemaNumber (c .kind)) (sizes : Sizes)
     (is-sizes : sizes ≡ sizesOf (rowsIn (c .rows) numbers) (c .values) schema)
-    (e : ℕ) (is-e : e ≡ sizeError (sizes .message) (16 + sizes .message + length body) (length out)) where
+    (e : ℕ) (is-e : e ≡ sizeError (16 + sizes .message + length body) (length out)) where
   sizes-are : sizes ≡ sizesOf (rowsIn (c .rows) numbers) (c .values) (schemaNumber (c .kind))
   sizes-are = is-sizes ∙ ap (sizesOf (rowsIn (c .rows) numbers) (c .values)) is-schema
 
-  of-message : e ≡ sizeError (length (messageIn c source numbers)) (16 + length (messageIn c source numbers) + length body) (length out)
+  of-message : e ≡ sizeError (16 + length (messageIn c source numbers) + length body) (length out)
   of-message = rw (size-is c source numbers (pre .1 .within) (pre .2) sizes sizes-are) at is-e
 
   ready : e ≡ 0 → RowsIn (c .rows) source numbers × (messageWithin (length source) (c .values) (schemaNumber (c .kind)) ≡ true)
-      × (sizes ≡ sizesOf (rowsIn (c .rows) numbers) (c .values) (schemaNumber (c .kind))) × (sizes .message ≤ maxHeader)
+      × (sizes ≡ sizesOf (rowsIn (c .rows) numbers) (c .values) (schemaNumber (c .kind)))
       × (16 + sizes .message + length body ≤ maxFrame) × (16 + sizes .message + length body ≤ length out)
   ready h =
-      let fine = no-error (sizes .message) (16 + sizes .message + length body) (length out) (sym is-e ∙ h) in
-      (pre .1, pre .2, sizes-are, fine .1, fine .0, fine .2)
+      let fine = no-error (16 + sizes .message + length body) (length out) (sym is-e ∙ h) in
+      (pre .1, pre .2, sizes-are, fine .0, fine .1)
 
 returns : tie.Need-returns
 returns c =

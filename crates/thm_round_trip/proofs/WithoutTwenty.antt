@@ -1,0 +1,185 @@
+-- For a user: nothing is lost with refusal 20.
+--
+-- Document 02: "A reader of our code asked how a header message can pass 65,535 when 19 has already held the frame to 65,536. Show that it
+-- can't, for all inputs". Promised, for every record, any source bytes, row numbers, body and output:
+--   `over-every-ceiling`    a message over 65,535 bytes makes a frame over every ceiling of at most 65,536.
+--   `without-twenty`        with 20's ground between 19 and 27 the answer and the whole output are what they are without it.
+--   `with-twenty-exactly`   a call of `write`, by its contract, gives each number exactly on its ground in the list with 20, too: no call
+--                           tells the two lists apart.
+--   `message-fits`          of a frame that `write` wrote, by its contract: the message has 65,520 bytes at most, and bytes 9-10 are its
+--                           size, or 0 in a stream frame.
+-- Not promised: that no other entry gives 20, which `never-twenty` does (crate `thm_numbers`).
+-- Ruled out: a writer that refuses a message of 65,520 bytes for its size, one that writes a message of 65,521 bytes, and one whose bytes
+-- 9-10 hold only the low bits of the message's size.
+-- Assumes nothing.
+use Prim.Native.Nat.{ℕ, _+_, _*_, _<_, _≤_}
+use mathlib.Core.Path.{_≡_, refl, sym, ap, subst, _∙_}
+use mathlib.Core.Bool.{Bool, true, false, cond}
+use mathlib.Core.List.{List, [], _∷_, _++_, append-assoc}
+use native.Mathlib.Omega.{arith}
+use borrow.Author.Tests.{leb-true, leb-false}
+use lib.Dec.{eqb, leb}
+use lib.ListN.{length, take, getD}
+use Rattle.laws.specs.Chains as chain
+use Rattle.fixed_header.specs.Header.{maxFrame}
+use Rattle.fixed_header.specs.Put.{fixedHeader}
+use Rattle.fixed_header.specs.declared.FixedHeader.{FixedHeader}
+use Rattle.schema.specs.declared.Kind.{Kind}
+use Rattle.schema.specs.declared.Kind.the-variants as kinds
+use Rattle.records.specs.declared.Record.{Record}
+use Rattle.records.specs.Content.{kindOf, recordId, rowCount, slotsOf}
+use Rattle.writer_checks.specs.Grounds.{contentError}
+use Rattle.writer.specs.Writing.{frameTypeOf, headerSize, headerFor, messageOf, frameOf, sizeError, writeError}
+use Rattle.writer.specs.Writing.{Writing, refusedWith, wrote, written}
+use Rattle.writer.specs.declared.Encoded.the-variants.{Frame}
+use Rattle.refusals.specs.Grounds.{Ground, ground, Entry, Exactly}
+use Rattle.refusals.proofs.Tests.{at-most}
+use Rattle.refusals.proofs.Order.{Outcome, Numbered, end, unless, unless-error, exactly}
+use Rattle.thm_round_trip.specs.Calls.{Writes}
+use Rattle.thm_round_trip.specs.MessageFits.{sizeSaid, MessageFits}
+use Rattle.thm_round_trip.specs.Refusals.{encodedSays}
+use Rattle.thm_round_trip.proofs.Accepted.{write-accepted, done}
+use Rattle.thm_round_trip.proofs.CalledBack.{all-written}
+use Rattle.thm_round_trip.proofs.Exactly.{groundsBefore19, content-outcome}
+use Rattle.thm_round_trip.proofs.FrameBack.{frame-length}
+
+-- ---- document 01's order, with 20: only here
+-- "20 | writer | header message over 65,535"
+abbrev pub maxHeader : ℕ
+maxHeader = 65535
+
+-- "Writer 18's first three grounds, 17, 18's others, 15, 19, 20, 27."
+abbrev pub groundsWithTwenty : Record → (source numbers body : List ℕ) → (room : ℕ) → List Ground
+groundsWithTwenty r source numbers body room =
+    groundsBefore19 r source numbers body room
+    ++ ground 19 (maxFrame < length (frameOf r source numbers body))
+    ∷ ground 20 (maxHeader < length (messageOf r source numbers))
+    ∷ ground 27 (room < length (frameOf r source numbers body))
+    ∷ []
+
+abbrev pub entryWithTwenty : Record → (source numbers body output : List ℕ) → Entry Writing
+entryWithTwenty r source numbers body output =
+    record {
+      grounds = groundsWithTwenty r source numbers body (length output);
+      says = λ w. encodedSays (w .answer);
+      refusal = λ n. refusedWith n output;
+      work = wrote (frameOf r source numbers body) output;
+    }
+
+-- the same as tests
+abbrev pub errorWithTwenty : Record → (source numbers body : List ℕ) → (room : ℕ) → ℕ
+errorWithTwenty r source numbers body room =
+    chain.unless (eqb (contentError (kindOf r) (slotsOf r) (rowCount r) source numbers (length body)) 0)
+    (contentError (kindOf r) (slotsOf r) (rowCount r) source numbers (length body))
+    (chain.unless (leb (length (frameOf r source numbers body)) maxFrame) 19
+    (chain.unless (leb (length (messageOf r source numbers)) maxHeader) 20
+    (chain.unless (leb (length (frameOf r source numbers body)) room) 27 0)))
+
+abbrev pub writtenWithTwenty : Record → (source numbers body output : List ℕ) → Writing
+writtenWithTwenty r source numbers body output =
+    cond (eqb (errorWithTwenty r source numbers body (length output)) 0)
+    (wrote (frameOf r source numbers body) output)
+    (refusedWith (errorWithTwenty r source numbers body (length output)) output)
+
+-- ---- the message and the frame around it
+module _ (r : Record) (source numbers body : List ℕ) where
+  abbrev message : List ℕ
+  message = messageOf r source numbers
+
+  abbrev frame : List ℕ
+  frame = frameOf r source numbers body
+
+  frame-size : length frame ≡ 16 + length message + length body
+  unfolding frameOf
+  frame-size = frame-length (kindOf r) (recordId r) message body
+
+  pub over-every-ceiling : (ceiling : ℕ) → ceiling ≤ maxFrame → maxHeader < length message → ceiling < length frame
+  over-every-ceiling ceiling within over = omega (arith, frame-size)
+
+  -- where 19's ground does not hold, 20's does not, under any such ceiling
+  no-twenty : (ceiling later : ℕ) → ceiling ≤ maxFrame
+      → chain.unless (leb (length frame) ceiling) 19 (chain.unless (leb (length message) maxHeader) 20 later)
+      ≡ chain.unless (leb (length frame) ceiling) 19 later
+  no-twenty ceiling later within = by (leb (length frame) ceiling) refl (leb (length message) maxHeader) refl
+    where
+      by : (small : Bool) → leb (length frame) ceiling ≡ small → (short : Bool) → leb (length message) maxHeader ≡ short
+          → chain.unless small 19 (chain.unless short 20 later) ≡ chain.unless small 19 later
+      by false e short f = refl
+      by true e true f = refl
+      by true e false f =
+          let under = leb-true (length frame) ceiling e in
+          absurd (omega (arith, over-every-ceiling ceiling within (leb-false (length message) maxHeader f)))
+
+  same-error : (room : ℕ) → errorWithTwenty r source numbers body room ≡ writeError r source numbers body room
+  unfolding writeError sizeError
+  same-error room = rw (no-twenty maxFrame (chain.unless (leb (length frame) room) 27 0) (omega arith))
+
+  pub without-twenty : (output : List ℕ) → writtenWithTwenty r source numbers body output ≡ written r source numbers body output
+  without-twenty output = rw (same-error (length output))
+
+  -- ---- exactly on the grounds with 20
+  outcome-with-twenty : (room : ℕ) → Outcome (groundsWithTwenty r source numbers body room) (λ n. n) 0
+      (errorWithTwenty r source numbers body room)
+  outcome-with-twenty room =
+      unless-error (groundsBefore19 r source numbers body room)
+      (contentError (kindOf r) (slotsOf r) (rowCount r) source numbers (length body)) (search arith depth 20)
+      (content-outcome r source numbers body room)
+      (unless (at-most (length frame) maxFrame)
+      (unless (at-most (length message) maxHeader)
+      (unless (at-most (length frame) room)
+      end)))
+
+  numbered : (room : ℕ) → Numbered (groundsWithTwenty r source numbers body room)
+  numbered room = search arith depth 20
+
+  pub with-twenty-exactly : (output : List ℕ) (w : Writing) → Writes r source numbers body output w
+      → Exactly (entryWithTwenty r source numbers body output) w
+  with-twenty-exactly output w writes =
+      let room = length output in
+      subst (Exactly (entryWithTwenty r source numbers body output))
+      (without-twenty output ∙ sym (all-written r source numbers body output w writes))
+      (exactly (entryWithTwenty r source numbers body output) (writtenWithTwenty r source numbers body output) (λ none. refl) (λ n f. refl)
+      (unless-error (groundsWithTwenty r source numbers body room) (errorWithTwenty r source numbers body room) (numbered room)
+      (outcome-with-twenty room) end))
+
+-- ---- bytes 9-10
+size-said : (kind : Kind) (n : ℕ) → headerSize (frameTypeOf kind) n ≡ sizeSaid kind n
+size-said kinds.Request n = refl
+size-said kinds.Response n = refl
+size-said kinds.Init n = refl
+size-said kinds.Data n = refl
+size-said kinds.Feedback n = refl
+size-said kinds.Close n = refl
+
+said-at-most : (kind : Kind) (n : ℕ) → sizeSaid kind n ≤ n
+said-at-most kinds.Request n = omega arith
+said-at-most kinds.Response n = omega arith
+said-at-most kinds.Init n = omega arith
+said-at-most kinds.Data n = omega arith
+said-at-most kinds.Feedback n = omega arith
+said-at-most kinds.Close n = omega arith
+
+size-held : (h : FixedHeader) (rest : List ℕ) → h .«header_size» < 65536
+    → getD (fixedHeader h ++ rest) 8 0 * 256 + getD (fixedHeader h ++ rest) 9 0 ≡ h .«header_size»
+unfolding fixedHeader
+size-held h rest small = omega arith
+
+pub message-fits : (r : Record) (source numbers body output : List ℕ) (w : Writing) → Writes r source numbers body output w
+    → (size : ℕ) → w .answer ≡ Frame size → MessageFits (kindOf r) (messageOf r source numbers) (take size (w .output))
+unfolding frameOf
+message-fits r source numbers body output w writes size is =
+    let m = messageOf r source numbers in
+    let h = headerFor (kindOf r) (recordId r) m body in
+    let d = done (frameOf r source numbers body) output (writeError r source numbers body (length output)) size (sym (writes .0) ∙ is) in
+    let small = write-accepted r source numbers body (length output) (d .no-error) .small in
+    let fits : length m ≤ 65520 = omega (arith, frame-size r source numbers body) in
+    let said = size-said (kindOf r) (length m) in
+    let frame-is : take size (w .output) ≡ fixedHeader h ++ (m ++ body) =
+    ap (take size) (writes .1) ∙ d .frame-is ∙ append-assoc (fixedHeader h) m body in
+    record {
+      at-most = fits;
+      bytes-hold =
+          ap (λ (f : List ℕ). getD f 8 0 * 256 + getD f 9 0) frame-is
+          ∙ size-held h (m ++ body) (omega (arith, said, said-at-most (kindOf r) (length m)))
+          ∙ said;
+    }
