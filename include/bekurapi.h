@@ -20,7 +20,8 @@
  *
  * - Arguments. Every argument is taken. A bad one is refused with an error code.
  * - Error codes. One is returned exactly when its ground holds and no ground before it in the order does. The order is
- *   at the enum of the codes. 0 is returned where no ground holds.
+ *   at the enum of the codes. 0 is returned where no ground holds. Retired codes are never returned and never used
+ *   again: 20 (it was for a header message over 65,535 bytes).
  * - What is left. Each function says what everything lent to it is afterwards, also after a refusal. What is lent as
  *   const is never changed.
  *
@@ -408,8 +409,7 @@ uint32_t trpc_read_close(const uint8_t *frame, size_t frame_len, uint32_t *rows,
  * 3. TRPC_WRITE_ROWS for its other grounds.
  * 4. TRPC_WRITE_BODY.
  * 5. TRPC_WRITE_FRAME.
- * 6. TRPC_WRITE_HEADER. It is never returned: where its ground holds, that of TRPC_WRITE_FRAME does, too.
- * 7. TRPC_WRITE_OUTPUT.
+ * 6. TRPC_WRITE_OUTPUT.
  */
 enum trpc_write_error {
     TRPC_WRITE_DONE = 0,
@@ -418,7 +418,6 @@ enum trpc_write_error {
     TRPC_WRITE_ROWS = 18,   /* over 64 rows, rows with Feedback or Data, too few row numbers for them, equal keys, or a
                                meta part of Init marked absent and not all zero, empty and rowless */
     TRPC_WRITE_FRAME = 19,  /* the frame is over 65,536 bytes */
-    TRPC_WRITE_HEADER = 20, /* the header message is over 65,535 bytes */
     TRPC_WRITE_OUTPUT = 27  /* the output is shorter than the frame */
 };
 

@@ -6,7 +6,7 @@ from messages import KINDS, MAP, MESSAGES, SCHEMAS, UNARY, fields_of
 from walk import Dice
 from whole_frames import WITH_MAP, entries, leaves, mapped
 from writing import MOST_BYTES, MOST_ROWS, Call, laid_out, message
-from written_frames import init_of, repeated
+from written_frames import border, init_of, repeated
 
 TOP = 2**32 - 1
 
@@ -148,12 +148,11 @@ def bodies():
 
 
 def large_frames():
-    """Frames over 65,536 bytes. A header message over 65,535 makes such a frame, so 19 hides 20."""
+    """Frames over 65,536 bytes, with messages on both sides of what bytes 9-10 can hold, too."""
     source = repeated(MOST_BYTES)
     caller = MOST_BYTES - 16 - 4
-    for more, label in ((1, "65,537"), (15, "header message of 65,535"), (16, "header message of 65,536")):
-        fields = {"caller": (0, caller + more)}
-        yield Call(f"request, caller, {label}", "request", fields, [], source, wanted=19)
+    for more, label in ((1, "65,537"), (15, "message of 65,535"), (16, "message of 65,536")):
+        yield from border(MOST_BYTES + more, wanted=19)
         fields = {"func": (0, 40000), "caller": (20000, caller + more - 40004)}
         yield Call(f"request, two fields, {label}", "request", fields, [], source, wanted=19)
         yield init_of(MOST_BYTES + more, f"init, 64 rows, {label}", wanted=19)
@@ -168,11 +167,6 @@ def large_frames():
     yield Call("init, error_msg of 65,536 bytes", "init", failed, [], source, wanted=19)
     parts = {"request_meta": {**fields, "present": True}, **failed}
     yield Call("init, every field of 65,536 bytes", "init", parts, [], source, wanted=19)
-    yield Call("response, error_msg, 65,537", "response", {"error_msg": (0, caller + 1)}, [], source, wanted=19)
-    yield Call("close, msg, 65,537", "close", {"msg": (0, caller + 1)}, [], source, wanted=19)
-    for kind in ("request", "response", "data"):
-        for size in (MOST_BYTES - 15, MOST_BYTES):
-            yield Call(f"{kind}, body of {size} bytes", kind, {}, [], b"", body=repeated(size), wanted=19)
     for kind in sorted(UNARY):
         label, body = f"{kind}, header of 2 and body of 65,519 bytes", repeated(MOST_BYTES - 17)
         yield Call(label, kind, {"version": 1}, [], b"", body=body, wanted=19)
@@ -249,7 +243,7 @@ def no_output(call):
     call.room = 0
 
 
-# In the order of document 01: what is wrong, the error code, the kinds that can have it.
+# In document 01's order, without 20 (document 02, P9): what is wrong, the error code, the kinds that can have it.
 GROUNDS = (
     (over, 18, KINDS),
     (row_too_many, 18, ("data", "feedback")),

@@ -6,7 +6,6 @@ from walk import bytes_field, number_field
 
 MOST_ROWS = 64
 MOST_BYTES = 65536  # of a frame; and the program's buffers are as long
-MOST_HEADER = 65535
 SLOTS = 16
 ROOM = 300
 
@@ -95,8 +94,8 @@ def absent_parts(call):
 
 
 def grounds(call):
-    """The error codes in the order of document 01, each with whether its ground holds; one by one, since a later ground
-    is only looked at where those before it do not hold."""
+    """The error codes in document 01's order, without 20 (document 02, P9), each with whether its ground holds; one by
+    one, since a later ground is only looked at where those before it do not hold."""
     yield 18, call.count > MOST_ROWS
     yield 18, call.count > 0 and call.kind in ("feedback", "data")
     yield 18, 4 * call.count > len(call.numbers)
@@ -106,10 +105,8 @@ def grounds(call):
     yield 18, any(absent_parts(call))
     yield 15, call.kind in UNARY and call.fields.get("attachment_size", 0) > len(call.body)
     yield 15, call.kind in ("init", "feedback", "close") and call.body != b""
-    size = len(message(call))
-    total = 16 + size + len(call.body)
+    total = 16 + len(message(call)) + len(call.body)
     yield 19, total > MOST_BYTES
-    yield 20, size > MOST_HEADER
     if call.room is None:
         call.room = min(total + call.spare, MOST_BYTES)
     yield 27, total > call.room

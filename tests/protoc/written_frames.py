@@ -189,16 +189,54 @@ def rooms():
         yield laid_out(f"{kind}, the largest output", kind, values, room=MOST_BYTES)
 
 
+def border(total, **rest):
+    """Frames of `total` bytes, around 65,536: with no body, in each kind whose message can be that long, by a byte
+    field, by one in each part of Init and by a row; with a message and a body; and with no message."""
+    for kind, part, name in (
+        ("request", None, "caller"),
+        ("response", None, "error_msg"),
+        ("init", "request_meta", "caller"),
+        ("init", "response_meta", "error_msg"),
+        ("close", None, "msg"),
+    ):
+        yield by_field(total, f"{kind}, {part + '.' if part else ''}{name}", kind, part, name, **rest)
+    for kind in WITH_MAP:
+        yield by_row(total, f"{kind}, a row", kind, **rest)
+    yield by_field(total, "request, caller and a body of a byte", "request", None, "caller", body=b"b", **rest)
+    halves = {"body": repeated(35519), "attachment_size": 35000}
+    yield by_field(total, "response, error_msg and half a body", "response", None, "error_msg", **halves, **rest)
+    for kind in ("request", "response", "data"):
+        yield Call(f"{kind}, a body, frame of {total}", kind, {}, [], b"", body=repeated(total - 16), **rest)
+
+
+def by_field(total, label, kind, part, name, attachment_size=0, **rest):
+    """A frame of `total` bytes by the length of a byte field."""
+    fields = {} if part is None else {part: {"present": True}}
+    if attachment_size:
+        fields["attachment_size"] = attachment_size
+    call = Call(f"{label}, frame of {total}", kind, fields, [], repeated(MOST_BYTES), **rest)
+    return grown(call, total, lambda size: (fields[part] if part else fields).update({name: (3, size)}))
+
+
+def by_row(total, label, kind, **rest):
+    """A frame of `total` bytes by the length of a row's value."""
+    fields = {"request_meta": {"present": True}} if kind == "init" else {}
+    call = Call(f"{label}, frame of {total}", kind, fields, [7, 1, 0, 0], repeated(MOST_BYTES), **rest)
+    return grown(call, total, lambda size: call.numbers.__setitem__(slice(2, 4), (3, size)))
+
+
+def grown(call, total, put):
+    """The call, with a content that `put` makes so long that the frame has `total` bytes. Lengths from 16,384 on take
+    three bytes, so that the frame grows as its content does."""
+    put(16384)
+    put(16384 + total - 16 - len(message(call)) - len(call.body))
+    assert 16 + len(message(call)) + len(call.body) == total, call.label
+    return call
+
+
 def largest():
     """Frames of 65,536 bytes."""
-    source = repeated(MOST_BYTES)
-    caller = MOST_BYTES - 16 - 4
-    yield Call("request, caller to the largest frame", "request", {"caller": (16, caller)}, [], source)
-    response = {"error_msg": (3, 30000), "attachment_size": 35000}
-    size = len(message(Call("", "response", response, [], source)))
-    body = repeated(MOST_BYTES - 16 - size)
-    yield Call("response, header and body to the largest frame", "response", response, [], source, body=body)
-    yield Call("data, body to the largest frame", "data", {}, [], b"", body=repeated(MOST_BYTES - 16))
+    yield from border(MOST_BYTES)
     yield init_of(MOST_BYTES, "init, 64 rows to the largest frame")
 
 

@@ -56,8 +56,6 @@ pub enum Error {
     Rows = 18,
     /// Writer: the frame is over 65,536 bytes.
     FrameSize = 19,
-    /// Writer: the header message is over 65,535 bytes. It never comes, since [`Error::FrameSize`] comes first.
-    HeaderMessage = 20,
     /// Add: 64 jobs wait.
     QueueFull = 21,
     /// Add: the arrival is above 2^62.
@@ -82,7 +80,7 @@ impl Error {
     ///
     /// assert!(Error::ALL.iter().all(|&error| Error::from_number(error.number()) == Some(error)));
     /// ```
-    pub const ALL: [Error; 27] = [
+    pub const ALL: [Error; 26] = [
         Error::BufferTooSmall,
         Error::UnknownState,
         Error::Magic,
@@ -102,7 +100,6 @@ impl Error {
         Error::Span,
         Error::Rows,
         Error::FrameSize,
-        Error::HeaderMessage,
         Error::QueueFull,
         Error::Arrival,
         Error::QueueEmpty,
@@ -111,6 +108,15 @@ impl Error {
         Error::Absent,
         Error::OutputTooShort,
     ];
+
+    /// Numbers that once were an error's and are never used again. 20 was a header message over 65,535 bytes.
+    ///
+    /// ```
+    /// use bekurapi::Error;
+    ///
+    /// assert!(Error::RETIRED.iter().all(|&number| Error::from_number(number).is_none()));
+    /// ```
+    pub const RETIRED: [u32; 1] = [20];
 
     /// The number of the error, as in docs/PROTOCOL.md.
     ///
@@ -121,7 +127,7 @@ impl Error {
         self as u32
     }
 
-    /// The error with a number. 0 is none, and so is a number above 27.
+    /// The error with a number. 0 is none, and so is a number above 27 or one of [`Error::RETIRED`].
     ///
     /// ```
     /// use bekurapi::Error;
@@ -162,7 +168,6 @@ impl Error {
                  or a meta part marked absent and not all zero, empty and rowless"
             }
             Error::FrameSize => "frame over 65,536",
-            Error::HeaderMessage => "header message over 65,535",
             Error::QueueFull => "64 jobs wait",
             Error::Arrival => "arrival above 2^62",
             Error::QueueEmpty => "nothing waits",
@@ -199,8 +204,9 @@ mod tests {
     use super::*;
 
     #[test]
-    fn numbers_rise_from_1_to_27() {
-        assert!(Error::ALL.iter().map(|error| error.number()).eq(1..=27));
+    fn numbers_rise_from_1_to_27_without_the_retired() {
+        let used = (1..=27).filter(|number| !Error::RETIRED.contains(number));
+        assert!(Error::ALL.iter().map(|error| error.number()).eq(used));
     }
 
     #[test]
@@ -213,5 +219,11 @@ mod tests {
     #[should_panic(expected = "no error has this number")]
     fn unknown_number() {
         let _ = checked(28);
+    }
+
+    #[test]
+    #[should_panic(expected = "no error has this number")]
+    fn retired_number() {
+        let _ = checked(Error::RETIRED[0]);
     }
 }

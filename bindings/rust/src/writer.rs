@@ -11,8 +11,7 @@ const MOST_ROWS: usize = 64;
 /// the frame stay as they were, and after an error all of them do.
 ///
 /// The errors, in this order: [`Error::Rows`] where the map has over 64 pairs or equal keys; [`Error::Attachment`] where it is
-/// larger than the body, or where Init, Feedback or Close have a body; [`Error::FrameSize`]; [`Error::HeaderMessage`];
-/// [`Error::OutputTooShort`].
+/// larger than the body, or where Init, Feedback or Close have a body; [`Error::FrameSize`]; [`Error::OutputTooShort`].
 ///
 /// What was read can be handed to the writer. It may be refused with [`Error::FrameSize`]: the frame written may be longer than
 /// the one read. No other error is ruled out yet.

@@ -75,11 +75,16 @@ fn empty_records() -> Vec<Record<'static>> {
     ]
 }
 
+fn may_have_body(record: &Record) -> bool {
+    matches!(record.kind(), Kind::Request | Kind::Response | Kind::Data)
+}
+
 /// A body where the kind may have one.
 fn body_of(record: &Record) -> &'static [u8] {
-    match record.kind() {
-        Kind::Request | Kind::Response | Kind::Data => b"twelve bytes and some more",
-        _ => b"",
+    if may_have_body(record) {
+        b"twelve bytes and some more"
+    } else {
+        b""
     }
 }
 
@@ -232,15 +237,64 @@ fn bodies_that_are_refused() {
     assert_eq!(to_vec(1, &Record::Response(response), b"four"), Err(Error::Attachment));
 }
 
+/// The longest message.
+const MOST: usize = MAX_FRAME - 16;
+
+/// Records whose message is of so many bytes, over 20,000: by a byte field, by one in each part of Init, and by a row. A tag with
+/// its length, of the content and of what is around it, takes four bytes then, and a row's key three.
+fn with_message(size: usize, content: &[u8]) -> Vec<Record<'_>> {
+    let bytes = |around: usize| &content[..size - around];
+    let row = |around: usize| TransInfo::from([(&b"k"[..], bytes(3 + around))]);
+    let asks = |meta| Record::Init(Init { request_meta: Some(meta), ..Init::default() });
+    let answers = |meta| Record::Init(Init { response_meta: Some(meta), ..Init::default() });
+    vec![
+        Record::Request(Request { func: bytes(4), ..Request::default() }),
+        Record::Response(Response { error_msg: bytes(4), ..Response::default() }),
+        asks(RequestMeta { func: bytes(8), ..RequestMeta::default() }),
+        answers(ResponseMeta { error_msg: bytes(8), ..ResponseMeta::default() }),
+        Record::Close(Close { msg: bytes(4), ..Close::default() }),
+        Record::Request(Request { trans_info: row(8), ..Request::default() }),
+        Record::Response(Response { trans_info: row(8), ..Response::default() }),
+        asks(RequestMeta { trans_info: row(12), ..RequestMeta::default() }),
+        Record::Close(Close { trans_info: row(8), ..Close::default() }),
+    ]
+}
+
+#[test]
+fn messages_up_to_the_longest() {
+    let content = vec![b'f'; MAX_FRAME];
+    for record in with_message(MOST, &content) {
+        let frame = to_vec(1, &record, b"").unwrap();
+        assert_eq!(frame.len(), MAX_FRAME);
+        let message = read(record.kind(), &frame).unwrap();
+        assert_eq!(message.header.len(), MOST);
+        assert_eq!((message.record, message.body), (record, &b""[..]));
+    }
+    // Here there is room for the frame.
+    let mut out = vec![0xee; 2 * MAX_FRAME];
+    for record in with_message(MOST + 1, &content) {
+        assert_eq!(to_vec(1, &record, b""), Err(Error::FrameSize));
+        assert_eq!(write(1, &record, b"", &mut out), Err(Error::FrameSize));
+    }
+    assert!(out.iter().all(|&byte| byte == 0xee));
+}
+
+/// By a message and a body, and by a body only.
 #[test]
 fn frames_up_to_the_largest() {
-    let func = vec![b'f'; MAX_FRAME];
-    let request = |len| Record::Request(Request { func: &func[..len], ..Request::default() });
-    // 16 bytes, a tag, and a length of three bytes.
-    let most = MAX_FRAME - 20;
-    assert_eq!(to_vec(1, &request(most), b"").unwrap().len(), MAX_FRAME);
-    assert_eq!(to_vec(1, &request(most), b"1"), Err(Error::FrameSize));
-    assert_eq!(to_vec(1, &request(most + 1), b""), Err(Error::FrameSize));
+    let content = vec![b'f'; MAX_FRAME];
+    let check = |record: Record, size: usize| {
+        let body = &content[..MOST - size];
+        let frame = to_vec(1, &record, body).unwrap();
+        assert_eq!(frame.len(), MAX_FRAME);
+        let message = read(record.kind(), &frame).unwrap();
+        assert_eq!((message.header.len(), message.body), (size, body));
+        assert_eq!(to_vec(1, &record, &content[..MOST - size + 1]), Err(Error::FrameSize));
+    };
+    for size in [MOST, MOST - 1, 40_000] {
+        with_message(size, &content).into_iter().filter(may_have_body).for_each(|record| check(record, size));
+    }
+    empty_records().into_iter().filter(may_have_body).for_each(|record| check(record, 0));
 }
 
 /// An entry with no value reads as one with an empty value, which is written in two bytes more.

@@ -2,10 +2,14 @@
 
 #![allow(clippy::undocumented_unsafe_blocks, reason = "one comment below is for every call")]
 
+use crate::difference::Difference;
 use crate::reference::deframer::State;
 use crate::reference::interface::{Deframed, Finished, Numbers, Parsed, Removed, Written};
 use crate::reference::messages::Kind;
 use crate::reference::queue::{Job, Queue};
+use crate::reference::RETIRED;
+use std::cell::RefCell;
+use std::fmt::Display;
 
 #[cfg(not(feature = "library"))]
 use crate::stand_in as c;
@@ -17,11 +21,30 @@ const NO_ANSWER: usize = 0x5555_5555_5555;
 const NO_NUMBER: u32 = 0x5555_5555;
 const NO_JOB: Job = Job { connection: 1, request: 2, timeout: 3, zero: 5, arrival: 4 };
 
+thread_local! {
+    static RETIRED_GIVEN: RefCell<Option<Difference>> = const { RefCell::new(None) };
+}
+
+/// Every error code that the library gives goes through here.
+pub fn given(by: &dyn Display, code: u32) -> u32 {
+    if RETIRED.contains(&code) {
+        let what = format!("a retired number, given by {by}");
+        RETIRED_GIVEN.set(Some(Difference { what, expected: "never given".to_string(), actual: code.to_string() }));
+    }
+    code
+}
+
+/// The last retired number that the library gave, if it gave one since this was asked before.
+pub fn retired_given() -> Option<Difference> {
+    RETIRED_GIVEN.take()
+}
+
 // SAFETY, for every function below: each pointer is that of a slice or reference that lives through the call, with the slice's
 // length beside it, and the library keeps none of them. The reference's jobs and queues are laid out as C's are.
 
 pub fn header_check(bytes: &[u8]) -> u32 {
-    unsafe { c::trpc_header_check(bytes.as_ptr(), bytes.len()) }
+    let error = unsafe { c::trpc_header_check(bytes.as_ptr(), bytes.len()) };
+    given(&"the judge", error)
 }
 
 pub fn header_parse(bytes: &[u8]) -> Parsed {
@@ -30,7 +53,7 @@ pub fn header_parse(bytes: &[u8]) -> Parsed {
     let error = unsafe {
         c::trpc_header_parse(bytes.as_ptr(), bytes.len(), &mut frame_type, &mut total, &mut header_size, &mut id)
     };
-    Parsed { error, frame_type, total, header_size, id }
+    Parsed { error: given(&"the parser of headers", error), frame_type, total, header_size, id }
 }
 
 pub fn deframe(state: State, buffer: &mut [u8], piece: &[u8]) -> Deframed {
@@ -48,13 +71,17 @@ pub fn deframe(state: State, buffer: &mut [u8], piece: &[u8]) -> Deframed {
             &mut size,
         )
     };
-    Deframed { error, next: State { held, error: state_error }, taken, size }
+    // What the caller has in the state is not given by the library, if it stays there.
+    if state_error != state.error {
+        given(&"the deframer, in its state", state_error);
+    }
+    Deframed { error: given(&"the deframer", error), next: State { held, error: state_error }, taken, size }
 }
 
 pub fn finish(state: State, buffer: &[u8]) -> Finished {
     let mut short_by = NO_ANSWER;
     let error = unsafe { c::trpc_finish(state.held, state.error, buffer.as_ptr(), buffer.len(), &mut short_by) };
-    Finished { error, short_by }
+    Finished { error: given(&"the end", error), short_by }
 }
 
 fn reader(kind: Kind) -> c::Reader {
@@ -81,7 +108,8 @@ fn writer(kind: Kind) -> c::Writer {
 
 pub fn read(kind: Kind, frame: &[u8], rows: &mut [u32], record: &mut Numbers) -> u32 {
     let read = reader(kind);
-    unsafe { read(frame.as_ptr(), frame.len(), rows.as_mut_ptr(), rows.len(), record) }
+    let error = unsafe { read(frame.as_ptr(), frame.len(), rows.as_mut_ptr(), rows.len(), record) };
+    given(&format_args!("the reader of {kind:?}"), error)
 }
 
 pub fn write(kind: Kind, record: &Numbers, source: &[u8], rows: &[u32], body: &[u8], out: &mut [u8]) -> Written {
@@ -101,7 +129,7 @@ pub fn write(kind: Kind, record: &Numbers, source: &[u8], rows: &[u32], body: &[
             &mut size,
         )
     };
-    Written { error, size }
+    Written { error: given(&format_args!("the writer of {kind:?}"), error), size }
 }
 
 /// A value of the reference as the interface's struct of the same layout.
@@ -115,17 +143,18 @@ pub fn queue_init(queue: &mut Queue) {
 }
 
 pub fn queue_add(queue: &mut Queue, connection: u32, request: u32, timeout: u32, arrival: u64) -> u32 {
-    unsafe { c::trpc_queue_add(lent(queue), connection, request, timeout, arrival) }
+    let error = unsafe { c::trpc_queue_add(lent(queue), connection, request, timeout, arrival) };
+    given(&"add", error)
 }
 
 pub fn queue_take(queue: &mut Queue) -> Removed {
     let mut job = NO_JOB;
     let error = unsafe { c::trpc_queue_take(lent(queue), lent(&mut job)) };
-    Removed { error, job }
+    Removed { error: given(&"take", error), job }
 }
 
 pub fn queue_cancel(queue: &mut Queue, connection: u32, request: u32) -> Removed {
     let mut job = NO_JOB;
     let error = unsafe { c::trpc_queue_cancel(lent(queue), connection, request, lent(&mut job)) };
-    Removed { error, job }
+    Removed { error: given(&"cancel", error), job }
 }

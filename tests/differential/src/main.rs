@@ -1,10 +1,11 @@
-//! The library through its C interface against the reference, which is written from document 01 only.
+//! The library through its C interface against the reference, which is written from documents 01 and 02 only.
 //!
 //!     differential [--inputs N] [--long] [--seed N] [--family NAME]
 //!
-//! Every answer and every lent byte, number and struct is compared after each call. Prints the seed, one line for each family
-//! with its count and how often each error code was answered, and the total; at the first difference the smallest input
-//! found, with both answers, and exits with 1. `--long` is 100,000,000 inputs. A run with the same arguments is the same run.
+//! Every answer and every lent byte, number and struct is compared after each call, and no retired number may be given. Prints
+//! the seed, one line for each family with its count and how often each error code was answered, and the total; at the first
+//! difference the smallest input found, with both answers, and exits with 1. `--long` is 100,000,000 inputs. A run with the
+//! same arguments is the same run.
 
 mod difference;
 mod families;
@@ -35,7 +36,7 @@ struct Arguments {
 fn usage() -> ! {
     eprintln!("usage: differential [--inputs N] [--long] [--seed N] [--family NAME]");
     #[cfg(not(feature = "library"))]
-    eprintln!("       [--fault NAME], one of {}", stand_in::FAULTS.join(", "));
+    eprintln!("       [--fault NAME], one of {}", stand_in::FAULTS.map(|(fault, _)| fault).join(", "));
     exit(2);
 }
 
@@ -62,7 +63,7 @@ fn arguments() -> Arguments {
             }
             #[cfg(not(feature = "library"))]
             "--fault" => {
-                let name = words.next().filter(|name| stand_in::FAULTS.contains(&name.as_str()));
+                let name = words.next().filter(|name| stand_in::FAULTS.iter().any(|(fault, _)| fault == name));
                 stand_in::FAULT.set(name.unwrap_or_else(|| usage())).unwrap();
             }
             _ => usage(),

@@ -2,7 +2,8 @@
 
 use crate::difference::Difference;
 use crate::random::Random;
-use crate::shrink::{shrink, Case};
+use crate::reference::RETIRED;
+use crate::shrink::{compared, shrink, Case};
 use std::process::exit;
 use std::time::Instant;
 
@@ -25,9 +26,9 @@ impl Tally {
         }
     }
 
-    /// The refusals that document 01 can give and that were not answered. 20 comes after 19 and is never given.
-    pub fn missing(&self) -> Vec<usize> {
-        (1..Tally::CODES).filter(|code| *code != 20 && self.0[*code] == 0).collect()
+    /// The refusals that are in use and that were not answered.
+    pub fn missing(&self) -> Vec<u32> {
+        (1..Tally::CODES as u32).filter(|code| !RETIRED.contains(code) && self.0[*code as usize] == 0).collect()
     }
 
     fn line(&self) -> String {
@@ -64,7 +65,7 @@ impl Family {
     /// Compares one input; a difference ends the program.
     pub fn check<C: Case>(&mut self, case: &C) {
         self.done += 1;
-        if let Err(difference) = case.compare(&mut self.tally) {
+        if let Err(difference) = compared(case, &mut self.tally) {
             self.report(case, difference);
         }
     }

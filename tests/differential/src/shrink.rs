@@ -1,6 +1,7 @@
 //! Makes an input on which library and reference differ smaller, while they go on differing.
 
 use crate::difference::Difference;
+use crate::library;
 use crate::run::Tally;
 use std::ops::Range;
 use std::time::{Duration, Instant};
@@ -17,6 +18,15 @@ pub trait Case: Clone {
     fn show(&self) -> String;
 }
 
+/// What an input shows: a retired number that the library gave, or else the first thing in which it and the reference differ.
+pub fn compared<C: Case>(case: &C, tally: &mut Tally) -> Result<(), Difference> {
+    let result = case.compare(tally);
+    match library::retired_given() {
+        Some(difference) => Err(difference),
+        None => result,
+    }
+}
+
 const LIMIT: Duration = Duration::from_secs(60);
 
 /// The smallest input found from this one, and its difference.
@@ -25,7 +35,7 @@ pub fn shrink<C: Case>(case: &C, difference: Difference) -> (C, Difference) {
     let mut smallest = (case.clone(), difference);
     loop {
         let next = smallest.0.smaller().take_while(|_| Instant::now() < deadline).find_map(|candidate| {
-            let difference = candidate.compare(&mut Tally::default()).err()?;
+            let difference = compared(&candidate, &mut Tally::default()).err()?;
             Some((candidate, difference))
         });
         match next {
@@ -165,4 +175,35 @@ pub fn smaller_messages(message: &[u8]) -> Vec<Vec<u8>> {
         }
     }
     all
+}
+
+#[cfg(test)]
+mod tests {
+    use super::*;
+    use crate::reference::RETIRED;
+
+    /// An input to which library and reference answer the same, with this error code.
+    #[derive(Clone)]
+    struct Answered(u32);
+
+    impl Case for Answered {
+        fn compare(&self, _: &mut Tally) -> Result<(), Difference> {
+            library::given(&"an entry", self.0);
+            Ok(())
+        }
+
+        fn smaller(&self) -> Box<dyn Iterator<Item = Answered> + '_> {
+            Box::new(less(self.0.into()).map(|code| Answered(code as u32)))
+        }
+
+        fn show(&self) -> String {
+            self.0.to_string()
+        }
+    }
+
+    #[test]
+    fn a_retired_number_is_a_difference() {
+        let differs = |code: &u32| compared(&Answered(*code), &mut Tally::default()).is_err();
+        assert!((0..100).filter(differs).eq(RETIRED));
+    }
 }

@@ -12,30 +12,51 @@ use crate::reference::header;
 use crate::reference::interface::{self, Numbers, Written};
 use crate::reference::messages::Kind;
 use crate::reference::queue::{Job, Queue};
+use crate::reference::RETIRED;
 use std::slice::{from_raw_parts, from_raw_parts_mut};
 use std::sync::OnceLock;
 
 pub static FAULT: OnceLock<String> = OnceLock::new();
 
-pub const FAULTS: [&str; 13] = [
-    "header-size-of-total",
-    "id-of-16-bits",
-    "taken-one-less",
-    "held-forgotten",
-    "byte-behind-the-frame",
-    "timeout-of-seven-bits",
-    "close-read-as-feedback",
-    "last-number-kept",
-    "first-value-kept",
-    "written-past-the-frame",
-    "minus-one-in-five-bytes",
-    "due-in-32-bits",
-    "zero-as-it-was",
+/// Each fault, and a family whose inputs show it.
+pub const FAULTS: [(&str, &str); 23] = [
+    ("header-size-of-total", "header"),
+    ("id-of-16-bits", "header"),
+    ("taken-one-less", "every two cuts"),
+    ("held-forgotten", "every split"),
+    ("byte-behind-the-frame", "every split"),
+    ("timeout-of-seven-bits", "short messages"),
+    ("close-read-as-feedback", "short messages"),
+    ("last-number-kept", "messages"),
+    ("first-value-kept", "messages"),
+    ("written-past-the-frame", "records"),
+    ("minus-one-in-five-bytes", "records"),
+    ("due-in-32-bits", "queue calls"),
+    ("zero-as-it-was", "queues"),
+    ("retired-number-of-check", "header"),
+    ("retired-number-of-parse", "header"),
+    ("retired-number-of-deframe", "states"),
+    ("retired-number-of-finish", "states"),
+    ("retired-number-of-read", "damaged frames"),
+    ("retired-number-of-write", "largest frames"),
+    ("retired-number-of-add", "queue calls"),
+    ("retired-number-of-take", "queue calls"),
+    ("retired-number-of-cancel", "queue calls"),
+    ("retired-number-in-state", "streams"),
 ];
 
 fn fault(name: &str) -> bool {
-    debug_assert!(FAULTS.contains(&name));
+    debug_assert!(FAULTS.iter().any(|(fault, _)| *fault == name));
     FAULT.get().is_some_and(|fault| fault == name)
+}
+
+/// What an entry returns of its error code: with its fault of this name, a retired number in place of any other.
+fn returned(code: u32, name: &str) -> u32 {
+    if code != 0 && fault(name) {
+        RETIRED[0]
+    } else {
+        code
+    }
 }
 
 pub unsafe fn trpc_header_check(bytes: *const u8, len: usize) -> u32 {
@@ -47,7 +68,7 @@ pub unsafe fn trpc_header_check(bytes: *const u8, len: usize) -> u32 {
             return 0;
         }
     }
-    code
+    returned(code, "retired-number-of-check")
 }
 
 pub unsafe fn trpc_header_parse(
@@ -63,7 +84,7 @@ pub unsafe fn trpc_header_parse(
     *total = answer.total;
     *header_size = answer.header_size;
     *id = if fault("id-of-16-bits") { answer.id & 0xFFFF } else { answer.id };
-    answer.error
+    returned(answer.error, "retired-number-of-parse")
 }
 
 pub unsafe fn trpc_deframe(
@@ -88,17 +109,20 @@ pub unsafe fn trpc_deframe(
     if fault("byte-behind-the-frame") && answer.size > 17 && answer.size < buffer_len {
         buffer[answer.size] ^= 0xFF;
     }
+    if fault("retired-number-in-state") && answer.error > 2 {
+        answer.next.error = RETIRED[0];
+    }
     *held = answer.next.held;
     *error = answer.next.error;
     *taken = answer.taken;
     *size = answer.size;
-    answer.error
+    returned(answer.error, "retired-number-of-deframe")
 }
 
 pub unsafe fn trpc_finish(held: usize, error: u32, buffer: *const u8, buffer_len: usize, short_by: *mut usize) -> u32 {
     let end = interface::finish(State { held, error }, from_raw_parts(buffer, buffer_len));
     *short_by = end.short_by;
-    end.error
+    returned(end.error, "retired-number-of-finish")
 }
 
 pub type Reader = unsafe fn(*const u8, usize, *mut u32, usize, *mut Numbers) -> u32;
@@ -123,7 +147,7 @@ fn read(kind: Kind, frame: &[u8], rows: &mut [u32], record: &mut Numbers) -> u32
     if fault("first-value-kept") && code == 0 && record[1] == 3 {
         rows[2] = 0;
     }
-    code
+    returned(code, "retired-number-of-read")
 }
 
 fn write(kind: Kind, record: &Numbers, source: &[u8], rows: &[u32], body: &[u8], out: &mut [u8]) -> Written {
@@ -163,7 +187,7 @@ macro_rules! writers {
             let (body, out) = (from_raw_parts(body, body_len), from_raw_parts_mut(out, out_len));
             let answer = write(Kind::$kind, &*record, source, rows, body, out);
             *size = answer.size;
-            answer.error
+            returned(answer.error, "retired-number-of-write")
         }
     )* };
 }
@@ -198,7 +222,7 @@ pub unsafe fn trpc_queue_add(queue: *mut Queue, connection: u32, request: u32, t
     if fault("zero-as-it-was") && error == 0 {
         queue.jobs[place].zero = before.unwrap();
     }
-    error
+    returned(error, "retired-number-of-add")
 }
 
 pub unsafe fn trpc_queue_take(queue: *mut Queue, removed: *mut Job) -> u32 {
@@ -211,11 +235,11 @@ pub unsafe fn trpc_queue_take(queue: *mut Queue, removed: *mut Job) -> u32 {
         _ => interface::queue_take(queue),
     };
     *removed = answer.job;
-    answer.error
+    returned(answer.error, "retired-number-of-take")
 }
 
 pub unsafe fn trpc_queue_cancel(queue: *mut Queue, connection: u32, request: u32, removed: *mut Job) -> u32 {
     let answer = interface::queue_cancel(&mut *queue, connection, request);
     *removed = answer.job;
-    answer.error
+    returned(answer.error, "retired-number-of-cancel")
 }

@@ -11,6 +11,7 @@ use crate::reference::deframer::{uncut, End, State};
 use crate::reference::header::{first, LARGEST, UNARY};
 use crate::reference::interface::{self, Finished};
 use crate::reference::messages::{Kind, ROW_NUMBERS};
+use crate::reference::RETIRED;
 use crate::run::{Family, Tally};
 use crate::shrink::{fewer, less, lower, without, Case};
 use std::cell::RefCell;
@@ -405,7 +406,7 @@ pub fn states(family: &mut Family) {
             if held > 16 && fixed.error() == 0 && random.one_in(2) { random.between(16, fixed.total) } else { held };
         let own = fixed.error();
         let small = random.below(12) as u32;
-        let error = random.pick(&[0, 0, 0, own, own, own, small, any as u32]);
+        let error = random.pick(&[0, 0, 0, own, own, own, small, RETIRED[0], any as u32]);
         let length =
             random.pick(&[0, 1, 15, 16, 65_535, LARGEST, LARGEST, LARGEST, LARGEST, LARGEST, LARGEST, 65_537, 70_000]);
         let mut start = start;

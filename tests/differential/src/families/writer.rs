@@ -4,7 +4,7 @@ use crate::difference::{hex, same, Difference};
 use crate::lent::Lent;
 use crate::library;
 use crate::random::Random;
-use crate::reference::header::LARGEST;
+use crate::reference::header::{LARGEST, SIZE};
 use crate::reference::interface::{self, Numbers, RECORD_NUMBERS};
 use crate::reference::messages::Kind;
 use crate::reference::writer::frame;
@@ -302,37 +302,68 @@ pub fn grounds(family: &mut Family) {
     }
 }
 
-/// A record whose frame has around 65,536 bytes, by its body, by a byte field or by a row.
+/// A record whose frame has around 65,536 bytes, or a few more: by its body, or by a byte field or a row. Without a body the
+/// message then has around 65,520 bytes, or around 65,536.
 pub fn large(random: &mut Random) -> Writing {
     let mut case = Writing::good(random);
-    let total = LARGEST - 3 + random.below(7);
-    let byte = random.byte();
     let layout = layout(case.kind);
-    if matches!(case.kind, Kind::Request | Kind::Response | Kind::Data) && random.one_in(2) {
+    let has_body = matches!(case.kind, Kind::Request | Kind::Response | Kind::Data);
+    if random.one_in(2) {
         case.body.clear();
         if let Some(place) = layout.attachment {
             case.record[place] = 0;
         }
-        case.body = vec![byte; total - case.size().unwrap_or(16)];
-        return case;
     }
-    if case.kind == Kind::Init {
-        case.record[8] = 1;
-        case.record[16] = 1;
+    let near = if random.one_in(8) { LARGEST + SIZE } else { LARGEST };
+    let total = near - 3 + random.below(7);
+    let byte = random.byte();
+    match case.kind {
+        Kind::Data => case.by_body(random, total, byte),
+        Kind::Request | Kind::Response if random.one_in(2) => case.by_body(random, total, byte),
+        Kind::Request | Kind::Response | Kind::Init | Kind::Close => case.by_message(random, total, byte),
+        Kind::Feedback => {} // its message is always short
     }
-    // The source is long enough; the last byte field or the value of a new row fills the frame.
-    case.source.resize(LARGEST + 8, byte);
-    let length = (total - case.size().unwrap_or(16) - random.between(3, 8)) as u32;
-    let filling = (random.below(8) as u32, length);
-    match layout.bytes.last() {
-        Some(place) if random.one_in(2) => case.put_span(*place, filling),
-        _ => {
-            case.rows.truncate(4 * case.record[1] as usize);
-            case.rows.extend([LARGEST as u32 + 7, 1, filling.0, filling.1]);
-            case.record[1] += 1;
-        }
+    // A message that fills the frame leaves no room for a body.
+    if has_body && random.one_in(8) {
+        case.body.push(byte);
     }
     case
+}
+
+impl Writing {
+    /// Its body makes the frame of so many bytes; half have no field.
+    fn by_body(&mut self, random: &mut Random, total: usize, byte: u8) {
+        if random.one_in(2) {
+            *self = Writing::new(self.kind);
+        }
+        let rest = self.size().map_or(SIZE, |size| size - self.body.len());
+        self.body.resize(total - rest, byte);
+    }
+
+    /// A byte field or the value of a new row makes the frame of so many bytes.
+    fn by_message(&mut self, random: &mut Random, total: usize, byte: u8) {
+        if self.kind == Kind::Init {
+            self.record[8] = 1;
+            self.record[16] = 1;
+        }
+        self.source.resize(LARGEST + 2 * SIZE, byte);
+        let start = random.below(8) as u32;
+        let fields = layout(self.kind).bytes;
+        let field = random.one_in(2).then(|| random.pick(fields));
+        if field.is_none() {
+            self.rows.truncate(4 * self.record[1] as usize);
+            self.rows.extend([LARGEST as u32, 1, start, 0]);
+            self.record[1] += 1;
+        }
+        let put = |case: &mut Writing, length: u32| match field {
+            Some(place) => case.put_span(place, (start, length)),
+            None => *case.rows.last_mut().unwrap() = length,
+        };
+        // From 16,384 to 65,536 a length takes three bytes, so that the frame grows as the content does.
+        put(self, 16_384);
+        let size = self.size().unwrap_or(16_384 + SIZE);
+        put(self, (16_384 + total - size) as u32);
+    }
 }
 
 pub fn largest(family: &mut Family) {

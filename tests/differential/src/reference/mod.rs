@@ -1,4 +1,4 @@
-//! Document 01 in straightforward Rust, written from the paper only. Sentences in quotes are the paper's.
+//! Document 01 as document 02 changes it, in straightforward Rust, written from the papers only. Sentences in quotes are theirs.
 
 pub mod deframer;
 pub mod fields;
@@ -11,6 +11,9 @@ pub mod writer;
 
 /// A refusal number of document 01.
 pub type Refusal = u32;
+
+/// The numbers that have no meaning any more. Document 02, P9: "20 is never used again."
+pub const RETIRED: [Refusal; 1] = [20];
 
 #[cfg(test)]
 mod tests;

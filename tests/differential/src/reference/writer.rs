@@ -16,7 +16,7 @@ pub struct Input<'a> {
 
 /// Writes the frame to the start of `out` and gives its size. "Bytes past the frame stay as they were."
 ///
-/// "Writer 18's first three grounds, 17, 18's others, 15, 19, 20, 27."
+/// The order is document 01's, without the number that is retired: 18's first three grounds, 17, 18's others, 15, 19, 27.
 pub fn write(input: &Input, out: &mut [u8]) -> Result<usize, Refusal> {
     let frame = frame(input)?;
     if frame.len() > out.len() {
@@ -68,9 +68,6 @@ pub fn frame(input: &Input) -> Result<Vec<u8>, Refusal> {
     let total = SIZE + header.len() + body.len();
     if total > LARGEST {
         return Err(19);
-    }
-    if header.len() > 65_535 {
-        return Err(20);
     }
     Ok([&fixed_header(kind, total, header.len(), input.id), header.as_slice(), body].concat())
 }
