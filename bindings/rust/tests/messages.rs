@@ -228,9 +228,10 @@ fn equal_keys_are_refused() {
 fn bodies_that_are_refused() {
     for record in empty_records() {
         let body = to_vec(1, &record, b"body");
-        match record.kind() {
-            Kind::Request | Kind::Response | Kind::Data => assert!(body.is_ok()),
-            _ => assert_eq!(body, Err(Error::Attachment)),
+        if may_have_body(&record) {
+            assert!(body.is_ok());
+        } else {
+            assert_eq!(body, Err(Error::Attachment));
         }
     }
     let response = Response { attachment_size: 5, ..Response::default() };
@@ -270,9 +271,9 @@ fn messages_up_to_the_longest() {
         assert_eq!(message.header.len(), MOST);
         assert_eq!((message.record, message.body), (record, &b""[..]));
     }
-    // Here there is room for the frame.
+    // Here there is room for the frame. The largest of the messages has a size that bytes 9-10 cannot hold.
     let mut out = vec![0xee; 2 * MAX_FRAME];
-    for record in with_message(MOST + 1, &content) {
+    for record in [MOST + 1, 65_535, 65_536].into_iter().flat_map(|size| with_message(size, &content)) {
         assert_eq!(to_vec(1, &record, b""), Err(Error::FrameSize));
         assert_eq!(write(1, &record, b"", &mut out), Err(Error::FrameSize));
     }

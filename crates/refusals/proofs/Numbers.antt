@@ -40,11 +40,11 @@ none-twice = all-differ (0 ∷ inUse ++ retired) refl
 -- ---- a number that is in use is not retired
 apart : (n : ℕ) (ms ns : List ℕ) → NoneTwice (ms ++ ns) → Among n ms → Among n ns → ⊥
 apart n [] ns t a b = a
-apart n (m ∷ ms) ns t (inl same) b = t .0 (subst (λ (x : ℕ). Among x (ms ++ ns)) same (behind n ms ns b))
+apart n (m ∷ ms) ns t (inl same) b = t .0 (subst (λ (x : ℕ). Among x (ms ++ ns)) same (after n ms ns b))
   where
-    behind : (n : ℕ) (ms ns : List ℕ) → Among n ns → Among n (ms ++ ns)
-    behind n [] ns b = b
-    behind n (m ∷ ms) ns b = inr (behind n ms ns b)
+    after : (n : ℕ) (ms ns : List ℕ) → Among n ns → Among n (ms ++ ns)
+    after n [] ns b = b
+    after n (m ∷ ms) ns b = inr (after n ms ns b)
 apart n (m ∷ ms) ns t (inr a) b = apart n ms ns (t .1) a b
 
 pub not-retired : (n : ℕ) → Usable n → Among n retired → ⊥

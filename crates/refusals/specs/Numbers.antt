@@ -1,5 +1,6 @@
--- Document 01, "Refusal numbers": each number once, with the entries that give it and its ground in the paper's words. Which ground comes
--- first, and when a number is given, is in `Grounds` and in the lists of grounds of each entry.
+-- Documents 01 and 02, "Refusal numbers" and "Refusals": each number once, with the entries that give it and its ground in the papers'
+-- words, and those that went out of use. Which ground comes first, and when a number is given, is in `Grounds` and in the lists of grounds
+-- of each entry.
 -- Assumes nothing: these are definitions.
 use Prim.Native.Nat.{ℕ}
 use mathlib.Core.Path.{_≡_}

@@ -1,17 +1,19 @@
 -- For a user in C: what each exported function but those of the queue returns.
 --
 -- Promised, of any call that gave what its contract ensures (`proofs/Contracts`): it returns a number exactly when the number's
--- ground holds and none before it in document 01's order does; it returns 0 exactly when none holds; and what is in all that was lent is
--- said for each case. `c-read` and `c-write` say it of the six readers and of the six writers, by the kind. The queue's functions have the
--- same theorem in `thm_queue` (`c-add`, `c-take`, `c-cancel`).
+-- ground holds and none before it in the papers' order does; it returns 0 exactly when none holds; and what is in all that was lent is
+-- said for each case. `c-read` and `c-write` say it of the six readers and of the six writers, by the kind; `c-with-twenty-exactly` says it
+-- of the writers in document 01's order, with refusal 20, too. The queue's functions have the same theorem in `thm_queue` (`c-add`,
+-- `c-take`, `c-cancel`).
 -- Not promised: what the bytes of a written frame say, which `c-read-back` does.
 -- Ruled out: a function that returns 0 for a frame that it did not read or write, one that returns a later ground's number first, and a
--- number that document 01 does not give to that function.
+-- number that the papers do not give to that function.
 -- Assumes nothing.
 use Prim.Native.Nat.{ℕ, _<_}
 use mathlib.Core.Path.{_≡_, refl, sym, subst}
 use mathlib.Core.List.{List}
 use native.Mathlib.Omega.{arith}
+use lib.ListN.{length}
 use Rattle.fixed_header.specs.Header.{headerError, parsed}
 use Rattle.fixed_header.specs.declared.Parsed.{Parsed}
 use Rattle.fixed_header.specs.declared.Parsed.the-variants as headers
@@ -36,6 +38,7 @@ use Rattle.thm_c.specs.Calls.{CDeframed, CFinished, CDeframes, CFinishes
 use Rattle.thm_c.specs.RoundTrip.{CWritten, CWrites}
 use Rattle.thm_round_trip.specs.Refusals.{encodedSays, writeEntry}
 use Rattle.thm_round_trip.proofs.Exactly.{written-exactly}
+use Rattle.thm_round_trip.proofs.WithoutTwenty.{entryWithTwenty, numbered, with-twenty-exactly}
 use Rattle.refusals.specs.Grounds.{First, numberOf, Entry, retold, Exactly}
 use Rattle.refusals.proofs.Order.{Numbered, first-number, end, unless-error, outcome-of, exactly, retold-exactly}
 use Rattle.refusals.proofs.Numbers.{positive}
@@ -126,6 +129,16 @@ module _ (kind : Kind) (numbers source rows body output : List ℕ) where
       reported (writeEntry r source rows body output) writtenC (λ w. w .code) (λ w. encoded-number (w .answer))
       (first-number (writeEntry r source rows body output .grounds) write-numbers) (written r source rows body output)
       (written-exactly r source rows body output) w (all-written kind numbers source rows body output w writes)
+
+  -- in document 01's order with 20, too: no call in C tells the two lists apart
+  pub c-with-twenty-exactly : (w : CWritten) → CWrites kind numbers source rows body output w
+      → Exactly (retold writtenC (λ w. w .code) (entryWithTwenty r source rows body output)) w
+  c-with-twenty-exactly w writes =
+      reported (entryWithTwenty r source rows body output) writtenC (λ w. w .code) (λ w. encoded-number (w .answer))
+      (first-number (entryWithTwenty r source rows body output .grounds) (numbered r source rows body (length output)))
+      (written r source rows body output)
+      (with-twenty-exactly r source rows body output (written r source rows body output) (refl, refl)) w
+      (all-written kind numbers source rows body output w writes)
 
 -- ---- the six readers
 answer-number : (a : Answer) → answerError a ≡ numberOf (answerSays a)

@@ -3,7 +3,7 @@
 -- Promised, of any call of a writer that returned 0, with numbers of 32 bits, and of a call of the reader of the same kind on the frame
 -- that it wrote, with at least 256 row numbers: if each gave what its contract ensures, the reader returned 0, and its numbers say the same
 -- record with the same bytes: kind, id, each number, each present mark, the length and the bytes of each byte field, the rows in their
--- order, the header message, the body and the attachment (`c-read-back`). Of the writer's call alone, with any numbers: the message has
+-- order, the header message, the body and the attachment (`c-read-back`). Of the writer's call only, with any numbers: the message has
 -- 65,520 bytes at most, and bytes 9-10 hold its size, or 0 in a stream frame (`c-message-fits`).
 -- Not promised: that the starts are the same numbers (in the frame they count from its first byte), nor anything of an output that the
 -- caller changes between the calls.

@@ -5,5 +5,5 @@ pub mod Calls
 pub mod RoundTrip
 -- that each start and length that it gets lies within the frame
 pub mod Within
--- and what each function returns and leaves, by the grounds of document 01
+-- and what each function returns and leaves, by the grounds of the papers
 pub mod Entries

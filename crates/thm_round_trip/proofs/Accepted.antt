@@ -44,7 +44,7 @@ write-accepted r source numbers body room e =
     let none = no-code code (sizeError total room) e in
     record {
       content = content.accepted (kindOf r) (slotsOf r) (rowCount r) source numbers (length body) (none .0);
-      small = leb-true _ _ (kept (leb total maxFrame) 19 _ (omega arith) (none .1) .0);
+      small = leb-true _ _ (kept (leb total maxFrame) _ _ (omega arith) (none .1) .0);
     }
 
 -- the answer that a frame was written, and the frame in the output

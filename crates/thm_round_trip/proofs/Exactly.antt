@@ -1,7 +1,7 @@
 -- For a user: the writer's refusals, on the definition that the contract of `write` names; `CalledBack` has the function.
 --
 -- Promised, for every record, any source bytes, row numbers, body and output, of whatever size: each number is given exactly when its
--- ground holds and none before it in document 01's order does; with no ground the frame is written; and the whole output afterwards, as it
+-- ground holds and none before it in the papers' order does; with no ground the frame is written; and the whole output afterwards, as it
 -- was after a refusal, else the frame and then what was after it.
 -- Not promised: anything about the bytes of the frame, which `RoundTrip` reads back.
 -- Ruled out: a writer that refuses a record of 64 rows, one that refuses every record, and one that gives 19 where the attachment is larger
@@ -11,28 +11,24 @@ use Prim.Native.Nat.{ℕ, _*_}
 use mathlib.Core.Path.{refl}
 use mathlib.Core.List.{List}
 use native.Mathlib.Omega.{arith}
-use lib.ListN.{length, take}
+use lib.ListN.{length}
 use Rattle.fixed_header.specs.Header.{maxFrame}
 use Rattle.records.specs.Records.{attachmentSizeOf}
 use Rattle.records.specs.declared.Record.{Record}
 use Rattle.records.specs.Content.{kindOf, rowCount, slotsOf}
 use Rattle.writer_checks.specs.Grounds.{maxRows, hasMap, rowsOk, contentError}
 use Rattle.writer.specs.Writing.{rowsOf, frameOf, sizeError, writeError, written}
-use Rattle.refusals.specs.Grounds.{Ground, Exactly}
+use Rattle.refusals.specs.Grounds.{Exactly}
 use Rattle.refusals.proofs.Tests.{at-most, none-unless}
 use Rattle.refusals.proofs.Order.{Outcome, Numbered, end, unless, unless-two, unless-three, unless-error, exactly}
-use Rattle.thm_round_trip.specs.Refusals.{hasBody, writeGrounds, writeEntry}
+use Rattle.thm_round_trip.specs.Refusals.{hasBody, contentGrounds, writeGrounds, writeEntry}
 use Rattle.thm_round_trip.proofs.GroundTests.{spans-ok, rows-ok, keys-ok, parts-ok, body-tests}
 
--- those that `contentError` looks for: all before 19
-abbrev pub groundsBefore19 : Record → (source numbers body : List ℕ) → (room : ℕ) → List Ground
-groundsBefore19 r source numbers body room = take 9 (writeGrounds r source numbers body room)
-
-pub content-outcome : (r : Record) (source numbers body : List ℕ) (room : ℕ)
-    → Outcome (groundsBefore19 r source numbers body room) (λ n. n) 0
+pub content-outcome : (r : Record) (source numbers body : List ℕ)
+    → Outcome (contentGrounds r source numbers body) (λ n. n) 0
     (contentError (kindOf r) (slotsOf r) (rowCount r) source numbers (length body))
 unfolding contentError rowsOk
-content-outcome r source numbers body room =
+content-outcome r source numbers body =
     let count = rowCount r in
     rw (body-tests (kindOf r) (slotsOf r) (length body))
     (unless-three (at-most count maxRows) (none-unless (hasMap (kindOf r)) count) (at-most (count * 4) (length numbers))
@@ -48,9 +44,9 @@ write-outcome : (r : Record) (source numbers body : List ℕ) (room : ℕ)
 unfolding writeError sizeError
 write-outcome r source numbers body room =
     let frame = length (frameOf r source numbers body) in
-    unless-error (groundsBefore19 r source numbers body room)
+    unless-error (contentGrounds r source numbers body)
     (contentError (kindOf r) (slotsOf r) (rowCount r) source numbers (length body)) (search arith depth 20)
-    (content-outcome r source numbers body room)
+    (content-outcome r source numbers body)
     (unless (at-most frame maxFrame)
     (unless (at-most frame room)
     end))

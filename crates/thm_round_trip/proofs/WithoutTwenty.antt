@@ -3,6 +3,7 @@
 -- Document 02: "A reader of our code asked how a header message can pass 65,535 when 19 has already held the frame to 65,536. Show that it
 -- can't, for all inputs". Promised, for every record, any source bytes, row numbers, body and output:
 --   `over-every-ceiling`    a message over 65,535 bytes makes a frame over every ceiling of at most 65,536.
+--   `no-twenty`             under any such ceiling the tests for 19 and for 20, whatever comes after them, give what that for 19 gives.
 --   `without-twenty`        with 20's ground between 19 and 27 the answer and the whole output are what they are without it.
 --   `with-twenty-exactly`   a call of `write`, by its contract, gives each number exactly on its ground in the list with 20, too: no call
 --                           tells the two lists apart.
@@ -37,10 +38,10 @@ use Rattle.refusals.proofs.Tests.{at-most}
 use Rattle.refusals.proofs.Order.{Outcome, Numbered, end, unless, unless-error, exactly}
 use Rattle.thm_round_trip.specs.Calls.{Writes}
 use Rattle.thm_round_trip.specs.MessageFits.{sizeSaid, MessageFits}
-use Rattle.thm_round_trip.specs.Refusals.{encodedSays}
+use Rattle.thm_round_trip.specs.Refusals.{contentGrounds, encodedSays}
 use Rattle.thm_round_trip.proofs.Accepted.{write-accepted, done}
 use Rattle.thm_round_trip.proofs.CalledBack.{all-written}
-use Rattle.thm_round_trip.proofs.Exactly.{groundsBefore19, content-outcome}
+use Rattle.thm_round_trip.proofs.Exactly.{content-outcome}
 use Rattle.thm_round_trip.proofs.FrameBack.{frame-length}
 
 -- ---- document 01's order, with 20: only here
@@ -51,7 +52,7 @@ maxHeader = 65535
 -- "Writer 18's first three grounds, 17, 18's others, 15, 19, 20, 27."
 abbrev pub groundsWithTwenty : Record → (source numbers body : List ℕ) → (room : ℕ) → List Ground
 groundsWithTwenty r source numbers body room =
-    groundsBefore19 r source numbers body room
+    contentGrounds r source numbers body
     ++ ground 19 (maxFrame < length (frameOf r source numbers body))
     ∷ ground 20 (maxHeader < length (messageOf r source numbers))
     ∷ ground 27 (room < length (frameOf r source numbers body))
@@ -97,7 +98,7 @@ module _ (r : Record) (source numbers body : List ℕ) where
   over-every-ceiling ceiling within over = omega (arith, frame-size)
 
   -- where 19's ground does not hold, 20's does not, under any such ceiling
-  no-twenty : (ceiling later : ℕ) → ceiling ≤ maxFrame
+  pub no-twenty : (ceiling later : ℕ) → ceiling ≤ maxFrame
       → chain.unless (leb (length frame) ceiling) 19 (chain.unless (leb (length message) maxHeader) 20 later)
       ≡ chain.unless (leb (length frame) ceiling) 19 later
   no-twenty ceiling later within = by (leb (length frame) ceiling) refl (leb (length message) maxHeader) refl
@@ -121,15 +122,15 @@ module _ (r : Record) (source numbers body : List ℕ) where
   outcome-with-twenty : (room : ℕ) → Outcome (groundsWithTwenty r source numbers body room) (λ n. n) 0
       (errorWithTwenty r source numbers body room)
   outcome-with-twenty room =
-      unless-error (groundsBefore19 r source numbers body room)
+      unless-error (contentGrounds r source numbers body)
       (contentError (kindOf r) (slotsOf r) (rowCount r) source numbers (length body)) (search arith depth 20)
-      (content-outcome r source numbers body room)
+      (content-outcome r source numbers body)
       (unless (at-most (length frame) maxFrame)
       (unless (at-most (length message) maxHeader)
       (unless (at-most (length frame) room)
       end)))
 
-  numbered : (room : ℕ) → Numbered (groundsWithTwenty r source numbers body room)
+  pub numbered : (room : ℕ) → Numbered (groundsWithTwenty r source numbers body room)
   numbered room = search arith depth 20
 
   pub with-twenty-exactly : (output : List ℕ) (w : Writing) → Writes r source numbers body output w
@@ -172,14 +173,14 @@ message-fits r source numbers body output w writes size is =
     let h = headerFor (kindOf r) (recordId r) m body in
     let d = done (frameOf r source numbers body) output (writeError r source numbers body (length output)) size (sym (writes .0) ∙ is) in
     let small = write-accepted r source numbers body (length output) (d .no-error) .small in
-    let fits : length m ≤ 65520 = omega (arith, frame-size r source numbers body) in
+    let long = frame-size r source numbers body in
     let said = size-said (kindOf r) (length m) in
     let frame-is : take size (w .output) ≡ fixedHeader h ++ (m ++ body) =
     ap (take size) (writes .1) ∙ d .frame-is ∙ append-assoc (fixedHeader h) m body in
     record {
-      at-most = fits;
+      at-most = omega (arith, long);
       bytes-hold =
           ap (λ (f : List ℕ). getD f 8 0 * 256 + getD f 9 0) frame-is
-          ∙ size-held h (m ++ body) (omega (arith, said, said-at-most (kindOf r) (length m)))
+          ∙ size-held h (m ++ body) (omega (arith, long, said, said-at-most (kindOf r) (length m)))
           ∙ said;
     }

@@ -3,7 +3,7 @@ use Prim.Native.Nat.{ℕ, _+_, _*_, _<_}
 use mathlib.Core.Path.{_≡_}
 use mathlib.Core.Logic.{_⊎_}
 use mathlib.Core.Bool.{Bool, true, false}
-use mathlib.Core.List.{List, [], _∷_}
+use mathlib.Core.List.{List, [], _∷_, _++_}
 use lib.ListN.{length}
 use Rattle.fixed_header.specs.Header.{maxFrame}
 use Rattle.decoder.specs.Rows.{Row}
@@ -92,9 +92,9 @@ hasBody kinds.Close = false
 
 -- ---- the writer's grounds
 
--- "Writer 18's first three grounds, 17, 18's others, 15, 19, 20, 27." Document 02 took 20 out.
-abbrev pub writeGrounds : Record → (source numbers body : List ℕ) → (room : ℕ) → List Ground
-writeGrounds r source numbers body room =
+-- "Writer 18's first three grounds, 17, 18's others, 15": those for which the frame's size is not needed
+abbrev pub contentGrounds : Record → (source numbers body : List ℕ) → List Ground
+contentGrounds r source numbers body =
     -- "over 64 rows, rows with Feedback or Data, row slice too short for them"
     ground 18 (maxRows < rowCount r)
     ∷ ground 18 ((hasMap (kindOf r) ≡ false) × (0 < rowCount r))
@@ -106,8 +106,14 @@ writeGrounds r source numbers body room =
     -- "attachment larger than body; writer: a body with Init, Feedback or Close"
     ∷ ground 15 (length body < attachmentSizeOf (kindOf r) (slotsOf r))
     ∷ ground 15 ((hasBody (kindOf r) ≡ false) × (0 < length body))
+    ∷ []
+
+-- "19, 20, 27." Document 02 took 20 out.
+abbrev pub writeGrounds : Record → (source numbers body : List ℕ) → (room : ℕ) → List Ground
+writeGrounds r source numbers body room =
+    contentGrounds r source numbers body
     -- "frame over 65,536"; "output shorter than the frame"
-    ∷ ground 19 (maxFrame < length (frameOf r source numbers body))
+    ++ ground 19 (maxFrame < length (frameOf r source numbers body))
     ∷ ground 27 (room < length (frameOf r source numbers body))
     ∷ []
 

@@ -170,7 +170,7 @@ messageIn c source numbers = putFields source (rowsIn (c .rows) numbers) (schema
 abbrev pub frameWith : Content → (header body : List ℕ) → List ℕ
 frameWith c header body = fixedHeader (headerFor (c .kind) (c .id) header body) ++ header ++ body
 
--- it has no ground that needs no size: 19, 27, or the frame
+-- of a content that has no ground before 19: 19, 27, or the frame
 abbrev pub writtenWith : Content → (header body output : List ℕ) → Writing
 writtenWith c header body output =
     cond (eqb (sizeError (16 + length header + length body) (length output)) 0)

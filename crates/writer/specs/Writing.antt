@@ -69,7 +69,7 @@ frameOf r source numbers body =
 unfoldable pub sizeError : (total room : ℕ) → ℕ
 sizeError total room = unless (leb total maxFrame) 19 (unless (leb total room) 27 0)
 
--- "Writer 18's first three grounds, 17, 18's others, 15" (crate `writer_checks`), "19, 27" (document 02, P9: "20 is never used again"): the
+-- "Writer 18's first three grounds, 17, 18's others, 15, 19, 20, 27." Document 02 took 20 out. Those up to 15 are in `writer_checks`. The
 -- first that holds, 0 for none
 unfoldable pub writeError : Record → (source numbers body : List ℕ) → (room : ℕ) → ℕ
 writeError r source numbers body room =

@@ -44,7 +44,7 @@ pub fn retired_given() -> Option<Difference> {
 
 pub fn header_check(bytes: &[u8]) -> u32 {
     let error = unsafe { c::trpc_header_check(bytes.as_ptr(), bytes.len()) };
-    given(&"the judge", error)
+    given(&"trpc_header_check", error)
 }
 
 pub fn header_parse(bytes: &[u8]) -> Parsed {
@@ -53,7 +53,7 @@ pub fn header_parse(bytes: &[u8]) -> Parsed {
     let error = unsafe {
         c::trpc_header_parse(bytes.as_ptr(), bytes.len(), &mut frame_type, &mut total, &mut header_size, &mut id)
     };
-    Parsed { error: given(&"the parser of headers", error), frame_type, total, header_size, id }
+    Parsed { error: given(&"trpc_header_parse", error), frame_type, total, header_size, id }
 }
 
 pub fn deframe(state: State, buffer: &mut [u8], piece: &[u8]) -> Deframed {
@@ -73,15 +73,15 @@ pub fn deframe(state: State, buffer: &mut [u8], piece: &[u8]) -> Deframed {
     };
     // What the caller has in the state is not given by the library, if it stays there.
     if state_error != state.error {
-        given(&"the deframer, in its state", state_error);
+        given(&"trpc_deframe, in its state", state_error);
     }
-    Deframed { error: given(&"the deframer", error), next: State { held, error: state_error }, taken, size }
+    Deframed { error: given(&"trpc_deframe", error), next: State { held, error: state_error }, taken, size }
 }
 
 pub fn finish(state: State, buffer: &[u8]) -> Finished {
     let mut short_by = NO_ANSWER;
     let error = unsafe { c::trpc_finish(state.held, state.error, buffer.as_ptr(), buffer.len(), &mut short_by) };
-    Finished { error: given(&"the end", error), short_by }
+    Finished { error: given(&"trpc_finish", error), short_by }
 }
 
 fn reader(kind: Kind) -> c::Reader {
@@ -144,17 +144,17 @@ pub fn queue_init(queue: &mut Queue) {
 
 pub fn queue_add(queue: &mut Queue, connection: u32, request: u32, timeout: u32, arrival: u64) -> u32 {
     let error = unsafe { c::trpc_queue_add(lent(queue), connection, request, timeout, arrival) };
-    given(&"add", error)
+    given(&"trpc_queue_add", error)
 }
 
 pub fn queue_take(queue: &mut Queue) -> Removed {
     let mut job = NO_JOB;
     let error = unsafe { c::trpc_queue_take(lent(queue), lent(&mut job)) };
-    Removed { error: given(&"take", error), job }
+    Removed { error: given(&"trpc_queue_take", error), job }
 }
 
 pub fn queue_cancel(queue: &mut Queue, connection: u32, request: u32) -> Removed {
     let mut job = NO_JOB;
     let error = unsafe { c::trpc_queue_cancel(lent(queue), connection, request, lent(&mut job)) };
-    Removed { error: given(&"cancel", error), job }
+    Removed { error: given(&"trpc_queue_cancel", error), job }
 }

@@ -12,6 +12,7 @@ use crate::reference::header;
 use crate::reference::interface::{self, Numbers, Written};
 use crate::reference::messages::Kind;
 use crate::reference::queue::{Job, Queue};
+use crate::reference::writer::header_message;
 use crate::reference::RETIRED;
 use std::slice::{from_raw_parts, from_raw_parts_mut};
 use std::sync::OnceLock;
@@ -19,7 +20,7 @@ use std::sync::OnceLock;
 pub static FAULT: OnceLock<String> = OnceLock::new();
 
 /// Each fault, and a family whose inputs show it.
-pub const FAULTS: [(&str, &str); 23] = [
+pub const FAULTS: [(&str, &str); 24] = [
     ("header-size-of-total", "header"),
     ("id-of-16-bits", "header"),
     ("taken-one-less", "every two cuts"),
@@ -39,6 +40,7 @@ pub const FAULTS: [(&str, &str); 23] = [
     ("retired-number-of-finish", "states"),
     ("retired-number-of-read", "damaged frames"),
     ("retired-number-of-write", "largest frames"),
+    ("retired-number-of-a-long-message", "largest frames"),
     ("retired-number-of-add", "queue calls"),
     ("retired-number-of-take", "queue calls"),
     ("retired-number-of-cancel", "queue calls"),
@@ -157,6 +159,12 @@ fn write(kind: Kind, record: &Numbers, source: &[u8], rows: &[u32], body: &[u8],
     }
     if fault("minus-one-in-five-bytes") && kind == Kind::Response && answer.size > 0 && record[12] > i32::MAX as u32 {
         answer.size -= 5;
+    }
+    if fault("retired-number-of-a-long-message") && answer.error == 19 {
+        let message = header_message(&interface::input(kind, record, source, rows, body));
+        if message.len() > 65_535 && header::SIZE + message.len() + body.len() <= out.len() {
+            answer.error = RETIRED[0];
+        }
     }
     answer
 }

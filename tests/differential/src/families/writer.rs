@@ -314,7 +314,7 @@ pub fn large(random: &mut Random) -> Writing {
             case.record[place] = 0;
         }
     }
-    let near = if random.one_in(8) { LARGEST + SIZE } else { LARGEST };
+    let near = if random.one_in(4) { LARGEST + SIZE } else { LARGEST };
     let total = near - 3 + random.below(7);
     let byte = random.byte();
     match case.kind {
@@ -371,7 +371,8 @@ pub fn largest(family: &mut Family) {
         let random = &mut family.random;
         let mut case = large(random);
         let exact = case.size().unwrap_or(LARGEST);
-        case.out = random.pick(&[exact, exact, exact - 1, exact + 5]);
+        // The last has room for a frame that is too long, so that 27's ground does not hold.
+        case.out = random.pick(&[exact, exact, exact - 1, exact + 5, 2 * LARGEST]);
         family.check(&case);
     }
 }

@@ -9,7 +9,7 @@ pub mod queue;
 pub mod reader;
 pub mod writer;
 
-/// A refusal number of document 01.
+/// A refusal number of the papers.
 pub type Refusal = u32;
 
 /// The numbers that have no meaning any more. Document 02, P9: "20 is never used again."

@@ -38,7 +38,7 @@ pub fn frame(input: &Input) -> Result<Vec<u8>, Refusal> {
     {
         return Err(18);
     }
-    let rows: Vec<Row> = input.rows.chunks_exact(4).take(row_count as usize).map(row).collect();
+    let rows = rows(input);
 
     // 17: "a start plus length past the end of the source bytes, empty fields too"
     let row_spans = rows.iter().flat_map(|row| [row.key, row.value]);
@@ -64,12 +64,21 @@ pub fn frame(input: &Input) -> Result<Vec<u8>, Refusal> {
         return Err(15);
     }
 
-    let header = encode(&message, source, &rows);
+    let header = header_message(input);
     let total = SIZE + header.len() + body.len();
     if total > LARGEST {
         return Err(19);
     }
     Ok([&fixed_header(kind, total, header.len(), input.id), header.as_slice(), body].concat())
+}
+
+/// The header message of an input that has no ground before its size.
+pub fn header_message(input: &Input) -> Vec<u8> {
+    encode(&input.message, input.source, &rows(input))
+}
+
+fn rows(input: &Input) -> Vec<Row> {
+    input.rows.chunks_exact(4).take(input.row_count as usize).map(row).collect()
 }
 
 fn row(numbers: &[u32]) -> Row {
