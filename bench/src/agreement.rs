@@ -1,11 +1,11 @@
 //! The library and the straightforward Rust give the same answers, to the number, and the peers write the same frames:
 //! without that, comparing them says nothing.
 
+use crate::entries::{Deframe, HeaderCheck, QueueCalls};
 use crate::frames::{mixed_total, Frames};
 use crate::inputs::{headers, large_requests, responses, small_requests, Input};
 use crate::library::{self, FIELDS, PARTS, RECORD_NUMBERS};
-use crate::plain::deframer::{self, State};
-use crate::plain::header::{self, LARGEST};
+use crate::plain::header::LARGEST;
 use crate::plain::messages::Message;
 use crate::plain::queue::{Job, Queue, CAPACITY};
 use crate::plain::reader::{self, Reading, ROW_NUMBERS};
@@ -19,7 +19,8 @@ const DAMAGED: usize = 50;
 pub fn check() {
     for header in headers() {
         for length in 0..=header.len() {
-            assert_eq!(library::header_check(&header[..length]), header::check(&header[..length]));
+            let bytes = &header[..length];
+            assert_eq!(HeaderCheck::LIBRARY.call(bytes), HeaderCheck::RUST.call(bytes));
         }
     }
     check_messages(&small_requests());
@@ -112,6 +113,24 @@ fn numbers<M: Message>(reading: &Reading<M>) -> [u32; RECORD_NUMBERS] {
     numbers
 }
 
+/// A deframer's state and buffer, with what its last call answered.
+#[derive(Clone, PartialEq, Eq)]
+struct Cut {
+    held: usize,
+    error: u32,
+    buffer: Vec<u8>,
+    taken: usize,
+    size: usize,
+    answer: u32,
+}
+
+impl Cut {
+    fn call(&mut self, deframe: Deframe, piece: &[u8]) {
+        let Cut { held, error, buffer, taken, size, .. } = self;
+        self.answer = deframe.call(held, error, buffer, piece, taken, size);
+    }
+}
+
 /// Cuts streams into pieces of every size, call by call; each stream but the first has one damaged byte.
 fn check_cutting() {
     let stream = Frames::new(1 << 18, 2, mixed_total).collect::<Vec<_>>().concat();
@@ -121,15 +140,15 @@ fn check_cutting() {
         if round > 0 {
             damage(&mut stream, &mut random);
         }
-        let mut ours = (State::default(), vec![0; LARGEST]);
+        let mut ours = Cut { held: 0, error: 0, buffer: vec![0; LARGEST], taken: 0, size: 0, answer: 0 };
         let mut plain = ours.clone();
         let mut rest = &stream[..];
-        while !rest.is_empty() && ours.0.error == 0 {
+        while !rest.is_empty() && ours.error == 0 {
             let piece = &rest[..(random.between(0, 3_000) as usize).min(rest.len())];
-            let step = library::deframe(&mut ours.0, &mut ours.1, piece);
-            assert_eq!(step, deframer::deframe(&mut plain.0, &mut plain.1, piece));
-            assert!(ours == plain, "the states or the buffers differ");
-            rest = &rest[step.taken..];
+            ours.call(Deframe::LIBRARY, piece);
+            plain.call(Deframe::RUST, piece);
+            assert!(ours == plain, "the answers, the states or the buffers differ");
+            rest = &rest[ours.taken..];
         }
     }
 }
@@ -140,14 +159,17 @@ fn check_queue() {
     let (mut ours, mut plain) = (Queue::default(), Queue::default());
     for call in 0..20_000 {
         let job = any_job(&mut random);
-        match random.between(0, 3) {
-            0 | 1 => assert_eq!(library::queue_add(&mut ours, job), plain.add(job)),
-            2 => assert_eq!(library::queue_take(&mut ours), plain.take()),
-            _ => {
-                let removed = library::queue_cancel(&mut ours, job.connection, job.request);
-                assert_eq!(removed, plain.cancel(job.connection, job.request));
-            }
-        }
+        let kind = random.between(0, 3);
+        let answer = |calls: QueueCalls, queue: &mut Queue| {
+            let mut removed = Job { zero: 5, ..job };
+            let error = match kind {
+                0 | 1 => calls.add(queue, &job),
+                2 => calls.take(queue, &mut removed),
+                _ => calls.cancel(queue, job.connection, job.request, &mut removed),
+            };
+            (error, removed)
+        };
+        assert_eq!(answer(QueueCalls::LIBRARY, &mut ours), answer(QueueCalls::RUST, &mut plain));
         assert_eq!(ours, plain);
         if call % 200 == 0 {
             ours.jobs = std::array::from_fn(|_| Job { zero: random.number() as u32, ..any_job(&mut random) });

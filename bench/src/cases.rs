@@ -1,12 +1,13 @@
 //! The jobs that are measured. Each contender's pass sums up what it found.
 
+use crate::entries::{Deframe, HeaderCheck, QueueCalls};
 use crate::frames::{mixed_total, small_total, Frames};
 use crate::inputs::{headers, large_requests, responses, small_requests, Input, VARIANTS};
 use crate::library::{self, PARTS, RECORD_NUMBERS};
-use crate::plain::deframer::{self, Deframer, State, Step};
-use crate::plain::header::{self, LARGEST};
+use crate::plain::deframer::Deframer;
+use crate::plain::header::LARGEST;
 use crate::plain::messages::{Message, Request, Response};
-use crate::plain::queue::{Job, OwnQueue, Queue, CAPACITY};
+use crate::plain::queue::{Job, Queue, CAPACITY};
 use crate::plain::reader::{self, Reading, ROW_NUMBERS};
 use crate::plain::{writer, Error};
 use crate::random::Random;
@@ -52,13 +53,13 @@ pub fn all() -> Vec<Case> {
 
 fn header_check() -> Case {
     let headers = Rc::new(headers());
-    let pass = |check: fn(&[u8]) -> Error| {
+    let pass = |check: HeaderCheck| {
         let headers = headers.clone();
-        move || headers.iter().map(|header| u64::from(check(black_box(header)))).sum()
+        move || headers.iter().map(|header| u64::from(check.call(black_box(header)))).sum()
     };
     Case::new(READING, "check of a fixed header", headers.len())
-        .with(OURS, pass(library::header_check))
-        .with(RUST, pass(header::check))
+        .with(OURS, pass(HeaderCheck::LIBRARY))
+        .with(RUST, pass(HeaderCheck::RUST))
 }
 
 /// What a record says, as one number that each reader can tell: the peers' sources have the same sum.
@@ -211,14 +212,16 @@ fn writing_peers<M: Found + 'static>(mut case: Case, inputs: &Rc<Vec<Input<M>>>)
     case
 }
 
-/// A pass over a stream: hands over each piece until it is used up, and sums up the ids of the frames.
-fn cut(stream: &[u8], piece: usize, mut call: impl FnMut(&[u8]) -> (Step, u64)) -> u64 {
+/// A pass over a stream: hands over each piece until it is used up, and sums up the ids of the frames. A call stores the bytes
+/// that it took and gives its error code and the id.
+fn cut(stream: &[u8], piece: usize, mut call: impl FnMut(&[u8], &mut usize) -> (Error, u64)) -> u64 {
     let mut sum = 0;
     for mut rest in stream.chunks(piece) {
         while !rest.is_empty() {
-            let (step, id) = call(rest);
-            assert_eq!(step.error, 0);
-            rest = &rest[step.taken..];
+            let mut taken = 0;
+            let (error, id) = call(rest, &mut taken);
+            assert_eq!(error, 0);
+            rest = &rest[taken..];
             sum += id;
         }
     }
@@ -238,14 +241,14 @@ fn id(buffer: &[u8], size: usize) -> u64 {
 fn cutting(name: &str, total: fn(&mut Random) -> u64, bytes: usize, piece: usize) -> Case {
     let frames: Vec<Vec<u8>> = Frames::new(bytes as u64, 1, total).collect();
     let stream = Rc::new(frames.concat());
-    let lent = |call: fn(&mut State, &mut [u8], &[u8]) -> Step| {
+    let lent = |deframe: Deframe| {
         let stream = stream.clone();
-        let mut state = State::default();
-        let mut buffer = vec![0; LARGEST];
+        let (mut held, mut error, mut buffer) = (0, 0, vec![0; LARGEST]);
         move || {
-            cut(&stream, piece, |rest| {
-                let step = call(&mut state, &mut buffer, rest);
-                (step, id(&buffer, step.size))
+            cut(&stream, piece, |rest, taken| {
+                let mut size = 0;
+                let code = deframe.call(&mut held, &mut error, &mut buffer, rest, taken, &mut size);
+                (code, id(&buffer, size))
             })
         }
     };
@@ -253,60 +256,15 @@ fn cutting(name: &str, total: fn(&mut Random) -> u64, bytes: usize, piece: usize
     let mut deframer = Deframer::default();
     Case::new(CUTTING, name, frames.len())
         .bytes(bytes)
-        .with(OURS, lent(library::deframe))
-        .with(RUST, lent(deframer::deframe))
+        .with(OURS, lent(Deframe::LIBRARY))
+        .with(RUST, lent(Deframe::RUST))
         .with(RUST_OWN, move || {
-            cut(&own, piece, |rest| {
-                let step = deframer.push(rest);
-                (step, id(deframer.frame(step.size), step.size))
+            cut(&own, piece, |rest, taken| {
+                let mut size = 0;
+                let code = deframer.push(rest, taken, &mut size);
+                (code, id(deframer.frame(size), size))
             })
         })
-}
-
-/// The three calls on a queue, by whoever has it.
-trait Calls: Default + Clone + 'static {
-    fn add(&mut self, job: Job) -> Result<(), Error>;
-    fn take(&mut self) -> Result<Job, Error>;
-    fn cancel(&mut self, connection: u32, request: u32) -> Result<Job, Error>;
-}
-
-#[derive(Clone, Default)]
-struct Library(Queue);
-
-impl Calls for Library {
-    fn add(&mut self, job: Job) -> Result<(), Error> {
-        library::queue_add(&mut self.0, job)
-    }
-    fn take(&mut self) -> Result<Job, Error> {
-        library::queue_take(&mut self.0)
-    }
-    fn cancel(&mut self, connection: u32, request: u32) -> Result<Job, Error> {
-        library::queue_cancel(&mut self.0, connection, request)
-    }
-}
-
-impl Calls for Queue {
-    fn add(&mut self, job: Job) -> Result<(), Error> {
-        Queue::add(self, job)
-    }
-    fn take(&mut self) -> Result<Job, Error> {
-        Queue::take(self)
-    }
-    fn cancel(&mut self, connection: u32, request: u32) -> Result<Job, Error> {
-        Queue::cancel(self, connection, request)
-    }
-}
-
-impl Calls for OwnQueue {
-    fn add(&mut self, job: Job) -> Result<(), Error> {
-        OwnQueue::add(self, job)
-    }
-    fn take(&mut self) -> Result<Job, Error> {
-        OwnQueue::take(self)
-    }
-    fn cancel(&mut self, connection: u32, request: u32) -> Result<Job, Error> {
-        OwnQueue::cancel(self, connection, request)
-    }
 }
 
 /// The milliseconds between two arrivals.
@@ -326,23 +284,25 @@ fn jobs(count: usize, seed: u64) -> Vec<Job> {
 }
 
 /// A queue in which the jobs wait.
-fn waiting<Q: Calls>(jobs: &[Job]) -> Q {
-    let mut queue = Q::default();
-    jobs.iter().for_each(|job| queue.add(*job).unwrap());
+fn waiting(calls: QueueCalls, jobs: &[Job]) -> Queue {
+    let mut queue = Queue::default();
+    jobs.iter().for_each(|job| assert_eq!(calls.add(&mut queue, job), 0));
     queue
 }
 
 /// Adds a job, which makes so many, and takes the one due first. Each pass brings jobs that come after those of the last.
-fn taking<Q: Calls>(count: usize) -> impl FnMut() -> u64 {
-    let mut queue: Q = waiting(&jobs(count - 1, 7));
+fn taking(calls: QueueCalls, count: usize) -> impl FnMut() -> u64 {
+    let mut queue = waiting(calls, &jobs(count - 1, 7));
     let mut incoming = jobs(VARIANTS, 8);
+    let mut removed = Job::default();
     move || {
         let mut sum = 0;
         for job in &mut incoming {
             job.request += VARIANTS as u32;
             job.arrival += VARIANTS as u64 * STEP;
-            queue.add(*black_box(&*job)).unwrap();
-            sum += u64::from(black_box(queue.take().unwrap()).request);
+            assert_eq!(calls.add(&mut queue, black_box(job)), 0);
+            assert_eq!(calls.take(&mut queue, &mut removed), 0);
+            sum += u64::from(black_box(&removed).request);
         }
         sum
     }
@@ -350,24 +310,25 @@ fn taking<Q: Calls>(count: usize) -> impl FnMut() -> u64 {
 
 fn add_and_take(count: usize) -> Case {
     Case::new(QUEUE, format!("add and take, {count} waiting"), VARIANTS)
-        .with(OURS, taking::<Library>(count))
-        .with(RUST, taking::<Queue>(count))
-        .with(RUST_OWN, taking::<OwnQueue>(count))
+        .with(OURS, taking(QueueCalls::LIBRARY, count))
+        .with(RUST, taking(QueueCalls::RUST, count))
+        .with(RUST_OWN, taking(QueueCalls::RUST_OWN, count))
 }
 
 /// Of so many waiting jobs one is cancelled and added again.
-fn cancelling<Q: Calls>(count: usize) -> impl FnMut() -> u64 {
+fn cancelling(calls: QueueCalls, count: usize) -> impl FnMut() -> u64 {
     let jobs = jobs(count, 9);
-    let mut queue: Q = waiting(&jobs);
+    let mut queue = waiting(calls, &jobs);
     let mut random = Random(10);
     let named: Vec<Job> = (0..VARIANTS).map(|_| jobs[random.between(0, count as u64 - 1) as usize]).collect();
+    let mut removed = Job::default();
     move || {
         let mut sum = 0;
         for job in &named {
             let job = black_box(job);
-            let removed = queue.cancel(job.connection, job.request).unwrap();
-            sum += u64::from(black_box(removed).timeout);
-            queue.add(*job).unwrap();
+            assert_eq!(calls.cancel(&mut queue, job.connection, job.request, &mut removed), 0);
+            sum += u64::from(black_box(&removed).timeout);
+            assert_eq!(calls.add(&mut queue, job), 0);
         }
         sum
     }
@@ -375,7 +336,7 @@ fn cancelling<Q: Calls>(count: usize) -> impl FnMut() -> u64 {
 
 fn cancel_and_add(count: usize) -> Case {
     Case::new(QUEUE, format!("cancel and add, {count} waiting"), VARIANTS)
-        .with(OURS, cancelling::<Library>(count))
-        .with(RUST, cancelling::<Queue>(count))
-        .with(RUST_OWN, cancelling::<OwnQueue>(count))
+        .with(OURS, cancelling(QueueCalls::LIBRARY, count))
+        .with(RUST, cancelling(QueueCalls::RUST, count))
+        .with(RUST_OWN, cancelling(QueueCalls::RUST_OWN, count))
 }

@@ -2,6 +2,7 @@
 
 pub mod agreement;
 pub mod cases;
+pub mod entries;
 pub mod frames;
 pub mod inputs;
 pub mod library;

@@ -1,10 +1,8 @@
-//! The library, through its C interface (include/bekurapi.h).
+//! The library's readers and writers, through its C interface (include/bekurapi.h).
 
 #![allow(clippy::undocumented_unsafe_blocks, reason = "one comment below is for every call")]
 
-use crate::plain::deframer::{State, Step};
 use crate::plain::messages::{REQUEST, RESPONSE};
-use crate::plain::queue::{Job, Queue};
 use crate::plain::Error;
 use bekurapi_sys as ffi;
 
@@ -17,30 +15,7 @@ pub const PARTS: usize = 2;
 pub const FIELDS: usize = 8;
 
 // SAFETY, for every call below: each pointer is that of a slice or reference that lives through the call, with the slice's
-// length beside it, and the library keeps none of them. Plain Rust's jobs and queues are laid out as C's are.
-
-#[inline]
-pub fn header_check(bytes: &[u8]) -> Error {
-    unsafe { ffi::trpc_header_check(bytes.as_ptr(), bytes.len()) }
-}
-
-#[inline]
-pub fn deframe(state: &mut State, buffer: &mut [u8], piece: &[u8]) -> Step {
-    let (mut taken, mut size) = (0, 0);
-    let error = unsafe {
-        ffi::trpc_deframe(
-            &mut state.held,
-            &mut state.error,
-            buffer.as_mut_ptr(),
-            buffer.len(),
-            piece.as_ptr(),
-            piece.len(),
-            &mut taken,
-            &mut size,
-        )
-    };
-    Step { error, taken, size }
-}
+// length beside it, and the library keeps none of them.
 
 /// The reader and the writer of a kind of plain Rust's.
 #[inline]
@@ -87,38 +62,5 @@ pub fn write(
         Ok(size)
     } else {
         Err(error)
-    }
-}
-
-/// A job or a queue of plain Rust's as the interface's struct of the same layout.
-#[inline]
-fn lent<T, U>(value: &mut T) -> *mut U {
-    const { assert!(size_of::<T>() == size_of::<U>() && align_of::<T>() == align_of::<U>()) };
-    std::ptr::from_mut(value).cast()
-}
-
-#[inline]
-pub fn queue_add(queue: &mut Queue, job: Job) -> Result<(), Error> {
-    match unsafe { ffi::trpc_queue_add(lent(queue), job.connection, job.request, job.timeout, job.arrival) } {
-        0 => Ok(()),
-        error => Err(error),
-    }
-}
-
-#[inline]
-pub fn queue_take(queue: &mut Queue) -> Result<Job, Error> {
-    let mut job = Job::default();
-    match unsafe { ffi::trpc_queue_take(lent(queue), lent(&mut job)) } {
-        0 => Ok(job),
-        error => Err(error),
-    }
-}
-
-#[inline]
-pub fn queue_cancel(queue: &mut Queue, connection: u32, request: u32) -> Result<Job, Error> {
-    let mut job = Job::default();
-    match unsafe { ffi::trpc_queue_cancel(lent(queue), connection, request, lent(&mut job)) } {
-        0 => Ok(job),
-        error => Err(error),
     }
 }

@@ -53,6 +53,26 @@ impl Case {
     }
 }
 
+/// The instructions of an operation, ours and plain Rust's.
+pub struct Instructions {
+    row: String,
+    ours: f64,
+    rust: f64,
+}
+
+impl Instructions {
+    /// The rows of the table that `bench/instructions` makes.
+    pub fn all(table: &str) -> Vec<Instructions> {
+        let row = |line: &str| {
+            let words: Vec<&str> = line.split_whitespace().collect();
+            let [row @ .., ours, rust] = &words[..] else { panic!("not a row and two numbers: {line}") };
+            let number = |word: &str| word.parse().unwrap_or_else(|_| panic!("no number: {line}"));
+            Instructions { row: row.join(" "), ours: number(ours), rust: number(rust) }
+        };
+        table.lines().filter(|line| !line.starts_with('#')).map(row).collect()
+    }
+}
+
 /// A time with as many places as it deserves.
 fn time(nanoseconds: f64) -> String {
     match nanoseconds {
@@ -93,7 +113,7 @@ pub fn table(cases: &[Case]) -> String {
     out
 }
 
-pub fn markdown(facts: &str, cases: &[Case]) -> String {
+pub fn markdown(facts: &str, cases: &[Case], instructions: &[Instructions]) -> String {
     let mut out = String::from(include_str!("../about.md"));
     out.push_str("\n## The run\n\n");
     for fact in facts.lines() {
@@ -112,6 +132,12 @@ pub fn markdown(facts: &str, cases: &[Case]) -> String {
             let ratio = or_empty(case.ratio(index).map(|ratio| format!("{ratio:.2}")));
             writeln!(out, "| {name} | {} | {} | {rate} | {ratio} |", contender.name, time(contender.best)).unwrap();
         }
+    }
+    if !instructions.is_empty() {
+        out.push_str("\n## Instructions\n\n| job | ours | Rust | ours / Rust |\n|---|--:|--:|--:|\n");
+    }
+    for Instructions { row, ours, rust } in instructions {
+        writeln!(out, "| {row} | {ours:.0} | {rust:.0} | {:.2} |", ours / rust).unwrap();
     }
     out
 }

@@ -1,4 +1,4 @@
-//! Best of N rounds, in which all contenders run in turn.
+//! Best of N rounds, in which all contenders run in turn; and passes for callgrind to count.
 
 use std::hint::black_box;
 use std::time::{Duration, Instant};
@@ -49,12 +49,19 @@ impl Case {
 }
 
 impl Contender {
-    /// The time of so many passes.
-    fn time(&mut self, passes: u32) -> Duration {
-        let start = Instant::now();
+    /// So many passes. `bench/instructions` gives callgrind the name of this function.
+    #[inline(never)]
+    fn run(&mut self, passes: u32) {
         for _ in 0..passes {
             black_box((self.pass)());
         }
+    }
+
+    /// The time of so many passes. One comes before them, so that nobody pays for inputs that are not in the caches yet.
+    fn time(&mut self, passes: u32) -> Duration {
+        self.run(1);
+        let start = Instant::now();
+        self.run(passes);
         start.elapsed()
     }
 
@@ -91,5 +98,21 @@ pub fn measure(cases: &mut [Case], rounds: u32, sample: Duration) {
     }
     for contender in contenders {
         contender.times.sort_by(f64::total_cmp);
+    }
+}
+
+/// For callgrind: passes of the contenders of these names, in two runs each, of which the second is to be counted. `each` gets
+/// every one after its runs.
+pub fn count(cases: &mut [Case], names: &[&str], passes: u32, each: impl Fn(&Case, &Contender)) {
+    for case in cases {
+        agree(case);
+        for index in 0..case.contenders.len() {
+            let contender = &mut case.contenders[index];
+            if names.contains(&contender.name) {
+                contender.run(passes);
+                contender.run(passes);
+                each(case, &case.contenders[index]);
+            }
+        }
     }
 }

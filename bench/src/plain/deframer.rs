@@ -1,65 +1,58 @@
-//! Cutting a stream into frames.
+//! Cutting a stream into frames. A call answers with an error code, as the library does: `taken` receives how many bytes of the
+//! piece it took, and `size` the size of the frame that is whole now, 0 where there is none.
 
 use super::header::{FixedHeader, LARGEST, SIZE};
 use super::Error;
 
-#[derive(Clone, Copy, Default, Debug, PartialEq, Eq)]
-pub struct State {
-    pub held: usize,
-    pub error: Error,
-}
-
-/// The answer of a call: how many bytes of the piece it took, and the size of the frame that is whole now, 0 where there is
-/// none.
-#[derive(Clone, Copy, Debug, PartialEq, Eq)]
-pub struct Step {
-    pub error: Error,
-    pub taken: usize,
-    pub size: usize,
-}
-
-impl Step {
-    fn refused(error: Error, taken: usize) -> Step {
-        Step { error, taken, size: 0 }
-    }
-}
-
-/// A call on a state and a buffer that the caller lends: both are checked first, as the library does.
-#[inline(never)]
-pub fn deframe(state: &mut State, buffer: &mut [u8], piece: &[u8]) -> Step {
+/// A call on a state, `held` and `error`, and a buffer that the caller lends: they are checked first, as the library does.
+#[inline]
+pub fn deframe(
+    held: &mut usize,
+    error: &mut Error,
+    buffer: &mut [u8],
+    piece: &[u8],
+    taken: &mut usize,
+    size: &mut usize,
+) -> Error {
+    *taken = 0;
+    *size = 0;
     match buffer.first_chunk_mut() {
-        None => Step::refused(1, 0),
-        Some(buffer) if !known(state, buffer) => Step::refused(2, 0),
-        Some(buffer) => advance(state, buffer, piece),
+        None => 1,
+        Some(buffer) if !known(*held, *error, buffer) => 2,
+        Some(buffer) => advance(held, error, buffer, piece, taken, size),
     }
 }
 
-fn known(state: &State, buffer: &[u8; LARGEST]) -> bool {
-    if state.held < SIZE {
-        return state.error == 0;
+#[inline]
+fn known(held: usize, error: Error, buffer: &[u8; LARGEST]) -> bool {
+    if held < SIZE {
+        return error == 0;
     }
     match FixedHeader::parse(buffer.first_chunk().unwrap()) {
-        Ok(header) => state.error == 0 && header.total > state.held,
-        Err(error) => state.error == error && state.held == SIZE,
+        Ok(header) => error == 0 && header.total > held,
+        Err(code) => error == code && held == SIZE,
     }
 }
 
 /// A deframer whose state and buffer nobody else writes: it has nothing to check.
 pub struct Deframer {
-    state: State,
+    held: usize,
+    error: Error,
     buffer: Box<[u8; LARGEST]>,
 }
 
 impl Default for Deframer {
     fn default() -> Deframer {
-        Deframer { state: State::default(), buffer: Box::new([0; LARGEST]) }
+        Deframer { held: 0, error: 0, buffer: Box::new([0; LARGEST]) }
     }
 }
 
 impl Deframer {
     #[inline(never)]
-    pub fn push(&mut self, piece: &[u8]) -> Step {
-        advance(&mut self.state, &mut self.buffer, piece)
+    pub fn push(&mut self, piece: &[u8], taken: &mut usize, size: &mut usize) -> Error {
+        *taken = 0;
+        *size = 0;
+        advance(&mut self.held, &mut self.error, &mut self.buffer, piece, taken, size)
     }
 
     /// The frame that the last call made whole.
@@ -68,38 +61,45 @@ impl Deframer {
     }
 }
 
-#[inline]
-fn advance(state: &mut State, buffer: &mut [u8; LARGEST], piece: &[u8]) -> Step {
-    if state.error != 0 {
-        return Step::refused(state.error, 0);
+/// The call on a state that is known, where nothing is taken yet. It is inlined in both of its callers, as it would be in one.
+#[inline(always)]
+fn advance(
+    held: &mut usize,
+    error: &mut Error,
+    buffer: &mut [u8; LARGEST],
+    piece: &[u8],
+    taken: &mut usize,
+    size: &mut usize,
+) -> Error {
+    if *error != 0 {
+        return *error;
     }
-    let mut taken = 0;
-    if state.held < SIZE {
-        taken = piece.len().min(SIZE - state.held);
-        append(state, buffer, &piece[..taken]);
-        if state.held < SIZE {
-            return Step { error: 0, taken, size: 0 };
+    if *held < SIZE {
+        *taken = piece.len().min(SIZE - *held);
+        append(held, buffer, &piece[..*taken]);
+        if *held < SIZE {
+            return 0;
         }
     }
     let total = match FixedHeader::parse(buffer.first_chunk().unwrap()) {
         Ok(header) => header.total,
-        Err(error) => {
-            state.error = error;
-            return Step::refused(error, taken);
+        Err(code) => {
+            *error = code;
+            return code;
         }
     };
-    let content = (piece.len() - taken).min(total - state.held);
-    append(state, buffer, &piece[taken..taken + content]);
-    taken += content;
-    if state.held < total {
-        return Step { error: 0, taken, size: 0 };
+    let content = (piece.len() - *taken).min(total - *held);
+    append(held, buffer, &piece[*taken..*taken + content]);
+    *taken += content;
+    if *held == total {
+        *held = 0;
+        *size = total;
     }
-    state.held = 0;
-    Step { error: 0, taken, size: total }
+    0
 }
 
 #[inline]
-fn append(state: &mut State, buffer: &mut [u8; LARGEST], bytes: &[u8]) {
-    buffer[state.held..state.held + bytes.len()].copy_from_slice(bytes);
-    state.held += bytes.len();
+fn append(held: &mut usize, buffer: &mut [u8; LARGEST], bytes: &[u8]) {
+    buffer[*held..*held + bytes.len()].copy_from_slice(bytes);
+    *held += bytes.len();
 }

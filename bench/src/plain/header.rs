@@ -57,7 +57,7 @@ impl FixedHeader {
 }
 
 /// The error code of a header, 0 for a good one.
-#[inline(never)]
+#[inline]
 pub fn check(bytes: &[u8]) -> Error {
     match bytes.try_into() {
         Ok(header) => FixedHeader::parse(header).err().unwrap_or(0),

@@ -48,19 +48,19 @@ impl Default for Queue {
 
 /// The calls on a queue that the caller lends: it is checked first, as the library does.
 impl Queue {
-    #[inline(never)]
+    #[inline]
     pub fn add(&mut self, job: Job) -> Result<(), Error> {
         self.check()?;
         self.add_valid(job)
     }
 
-    #[inline(never)]
+    #[inline]
     pub fn take(&mut self) -> Result<Job, Error> {
         self.check()?;
         self.take_valid()
     }
 
-    #[inline(never)]
+    #[inline]
     pub fn cancel(&mut self, connection: u32, request: u32) -> Result<Job, Error> {
         self.check()?;
         self.cancel_valid(connection, request)
@@ -68,21 +68,21 @@ impl Queue {
 }
 
 /// A queue that nobody else writes: it has nothing to check.
-#[derive(Clone, Default)]
+#[repr(transparent)]
 pub struct OwnQueue(Queue);
 
 impl OwnQueue {
-    #[inline(never)]
+    #[inline]
     pub fn add(&mut self, job: Job) -> Result<(), Error> {
         self.0.add_valid(job)
     }
 
-    #[inline(never)]
+    #[inline]
     pub fn take(&mut self) -> Result<Job, Error> {
         self.0.take_valid()
     }
 
-    #[inline(never)]
+    #[inline]
     pub fn cancel(&mut self, connection: u32, request: u32) -> Result<Job, Error> {
         self.0.cancel_valid(connection, request)
     }
@@ -131,6 +131,7 @@ impl Queue {
         Ok(self.remove(at))
     }
 
+    #[inline]
     fn remove(&mut self, at: usize) -> Job {
         let removed = self.jobs[at];
         self.jobs.copy_within(at + 1..self.count, at);

@@ -2,11 +2,11 @@
 use crate::answers::answer_error;
 use crate::answers::encoded_error;
 use crate::answers::encoded_size;
+use crate::numbers::fields_of;
 use crate::numbers::numbers_of;
-use crate::numbers::record_from;
 use message::read_spans;
 use schema::Kind;
-use writer::write;
+use writer::write_slots;
 ghost use Rattle.bekurapi.specs.Kinds.{ReadAs, WrittenAs};
 
 pub(crate) fn read_as(kind: Kind, frame: &[u8], rows: &mut [u32], record: &mut [u32; 24]) -> u32
@@ -30,7 +30,18 @@ pub(crate) fn write_as(
     ensures { λ r. ⌜ WrittenAs kind (now («record» .entry)) (now (source .entry)) (now (rows .entry)) (now (body .entry))
         (now (out .entry)) r (now (size .exit)) (now (out .exit)) ⌝ }
 {
-    let encoded = write(record_from(kind, *record), source, rows, body, out);
+    let numbers = *record;
+    let fields = fields_of(numbers);
+    let encoded = write_slots(
+        kind,
+        numbers[0],
+        fields,
+        numbers[1],
+        source,
+        rows,
+        body,
+        out,
+    );
     *size = encoded_size(encoded);
     encoded_error(encoded)
 }

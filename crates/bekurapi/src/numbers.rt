@@ -1,15 +1,13 @@
 // A record as 24 numbers.
 use message::Answer;
 use message::Located;
-use records::Content;
-use records::Record;
-use records::content_of;
-use records::record_of;
+use records::Outline;
+use records::slots_of;
 use schema::Kind;
 ghost use mathlib.Core.Path.{_≡_};
 ghost use mathlib.Core.List.{_++_};
 ghost use lib.ListN.{take, drop};
-ghost use Rattle.bekurapi.specs.Numbers.{answerId, answerRows, answerSlots, numbersOf, recordFrom};
+ghost use Rattle.bekurapi.specs.Numbers.{answerId, answerRows, answerSlots, numbersOf};
 
 // Where its fields start, and how many numbers they are.
 const FIELDS_AT: usize = 8;
@@ -29,18 +27,20 @@ fn with_fields(numbers: [u32; 24], fields: [u32; 16]) -> [u32; 24]
     all
 }
 
-// What the record says that was read; of a refusal all is zero.
-fn content_in(answer: Answer) -> Content
-    ensures { λ r. ⌜ (r .id ≡ answerId answer) × (r .values ≡ answerSlots answer) × (r .rows ≡ answerRows answer) ⌝ }
+// What the record says that was read, its fields in `fields`; of a refusal all is zero.
+fn slots_in(answer: Answer, fields: &mut [u32; 16]) -> Outline
+    ensures { λ r. ⌜ (r .id ≡ answerId answer) × (r .rows ≡ answerRows answer) × (now (fields .exit) ≡ answerSlots answer) ⌝ }
 {
     match answer {
-        Answer::Read(record) => content_of(record),
-        Answer::Refused(_) => Content {
-            kind: Kind::Data,
-            id: 0,
-            values: [0; 16],
-            rows: 0,
-        },
+        Answer::Read(record) => slots_of(record, fields),
+        Answer::Refused(_) => {
+            *fields = [0; 16];
+            Outline {
+                kind: Kind::Data,
+                id: 0,
+                rows: 0,
+            }
+        }
     }
 }
 
@@ -49,14 +49,14 @@ pub(crate) fn numbers_of(reading: Located) -> [u32; 24]
     ensures { λ r. ⌜ r ≡ numbersOf reading ⌝ }
 {
     let answer = reading.answer;
-    let content = content_in(answer);
-    let fields = content.values;
+    let mut fields = [0; 16];
+    let outline = slots_in(answer, &mut fields);
     let header = reading.header;
     let body = reading.body;
     let attachment = reading.attachment;
     let mut numbers = [0; 24];
-    numbers[0] = content.id;
-    numbers[1] = content.rows;
+    numbers[0] = outline.id;
+    numbers[1] = outline.rows;
     numbers[2] = header.start;
     numbers[3] = header.len;
     numbers[4] = body.start;
@@ -67,7 +67,7 @@ pub(crate) fn numbers_of(reading: Located) -> [u32; 24]
 }
 
 // The fields among a record's numbers.
-fn fields_of(numbers: [u32; 24]) -> [u32; 16]
+pub(crate) fn fields_of(numbers: [u32; 24]) -> [u32; 16]
     ensures { λ r. ⌜ r ≡ drop 8 numbers ⌝ }
 {
     let mut fields = [0; 16];
@@ -77,13 +77,4 @@ fn fields_of(numbers: [u32; 24]) -> [u32; 16]
         i += 1;
     }
     fields
-}
-
-// The record of a kind from its numbers.
-pub(crate) fn record_from(kind: Kind, numbers: [u32; 24]) -> Record
-    ensures { λ r. ⌜ r ≡ recordFrom kind numbers ⌝ }
-{
-    let id = numbers[0];
-    let rows = numbers[1];
-    record_of(kind, id, fields_of(numbers), rows)
 }

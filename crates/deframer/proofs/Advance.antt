@@ -11,13 +11,14 @@ use borrow.Author.Tests.{lt-ltb, le-ltb, le-leb, lt-leb, eq-eqb, ne-eqb}
 use lib.ListN.{length, take, drop, take-append-drop}
 use lib.Seq.{length-take-le, take-at}
 use Rattle.fixed_header.specs.Header.{maxFrame, headerError, totalOf}
-use Rattle.deframer.specs.Deframe.{knownOf, stream, nextFrame, reach, nextState, advance, refuse, unmoved, deframed}
+use Rattle.deframer.specs.Deframe.{fresh, knownOf, stream, nextFrame, reach, nextState, advance, refuse, unmoved, deframed}
 use Rattle.deframer.specs.declared.Deframer.{Deframer}
 use Rattle.deframer.specs.declared.Step.{Step}
 use Rattle.deframer.specs.declared.Progress.{Progress}
 use Rattle.deframer.specs.declared.Progress.the-variants.{Frame, NeedMore, Refused}
 use Rattle.deframer.proofs.Lists.{stream-length, stream-head, drop-stream}
 use Rattle.laws.proofs.Lists.{drop-past}
+use Rattle.laws.proofs.Booleans.{clash}
 use Rattle.fixed_header.proofs.Codes.{good-total}
 
 -- ---- what comes first in a stream
@@ -65,6 +66,18 @@ reach-past l h = go (shape l)
     go (bad p b) = rw (next-bad l p b) (omega arith)
     go (part p e t) = rw (next-part l p e t) p
     go (whole p e t) = rw (next-whole l p e t) (good-total (take 16 l) e .0)
+
+-- a frame that comes first is in the stream, and no larger than a frame can be
+pub frame-within : (s : List ℕ) (n : ℕ) → nextFrame s ≡ Frame n → (n ≤ length s) × (n ≤ maxFrame)
+frame-within s n e = go (shape s)
+  where
+    go : Shape s → (n ≤ length s) × (n ≤ maxFrame)
+    go (short p) = clash (cc (next-short s p))
+    go (bad p b) = clash (cc (next-bad s p b))
+    go (part p g t) = clash (cc (next-part s p g t))
+    go (whole p g t) =
+        let is : n ≡ totalOf (take 16 s) = cc (next-whole s p g t) in
+        (omega arith, omega (arith, good-total (take 16 s) g))
 
 -- ---- a move: r and ys are its answer and its buffer at the stream l
 abbrev pub Moved : Step → List ℕ → ℕ → List ℕ → List ℕ → Type 0
@@ -152,7 +165,16 @@ module _ (d p ys : List ℕ) (held r : ℕ) (big : maxFrame ≤ length d) (under
         (reach-past (stream held d p) full) refl in
         (n .0, n .1 ∙ ap (λ (x : List ℕ). take k (stream held d p) ++ x) e)
 
--- ---- `deframe`: the four outcomes of a call
+-- ---- `take_whole`: the piece starts with a frame, and nothing is held
+pub whole-taken : (d p ys : List ℕ) (size : ℕ) → nextFrame p ≡ Frame size
+    → ys ≡ stream 0 d (take size p) ++ drop (0 + length (take size p)) d
+    → Moved (record { progress = Frame size; next = record { held = 0; error = 0 }; taken = size }) ys 0 d (stream 0 d p)
+whole-taken d p ys size f y =
+    let all : 0 + length (take size p) ≡ size = omega (arith, length-take-le size p (frame-within p size f .0)) in
+    let none : size - 0 ≡ size = omega arith in
+    rw (f, none) (refl, rw all at y)
+
+-- ---- `deframe`: the outcomes of a call
 module _ (st : Deframer) (d p : List ℕ) where
   pub call-small : length d < maxFrame → deframed st d p ≡ unmoved 1 st d
   unfolding deframed
@@ -183,6 +205,12 @@ called-refused st d p n r e u = rw u (e, refl)
 pub called-moved : (st : Deframer) (d p : List ℕ) (r : Step) (ys : List ℕ) → deframed st d p ≡ advance (st .held) d (stream (st .held) d p)
     → Moved r ys (st .held) d (stream (st .held) d p) → Called r ys st d p
 called-moved st d p r ys e m = rw e m
+
+-- a fresh state is known, and the stream is the piece
+pub from-fresh : (st : Deframer) (d p : List ℕ) (r : Step) (ys : List ℕ) → maxFrame ≤ length d → st ≡ fresh
+    → Moved r ys 0 d (stream 0 d p) → Called r ys st d p
+unfolding knownOf
+from-fresh st d p r ys big e m = rw e (called-moved fresh d p r ys (call-moves fresh d p big refl refl) m)
 
 -- where the header is in the buffer at the call, nothing of the piece is in it
 pub from-start : (r : Step) (ys d p : List ℕ) (held : ℕ) → Moved r ys held d (stream held d (drop (held - held) p))

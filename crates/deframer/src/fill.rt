@@ -2,6 +2,7 @@
 use crate::Deframer;
 use crate::Progress;
 use crate::Step;
+use copying::copy_to;
 use fixed_header::HEADER;
 use fixed_header::check_header;
 use fixed_header::declared_size;
@@ -46,12 +47,12 @@ pub(crate) fn known(state: Deframer, buffer: &[u8]) -> bool
 }
 
 // Puts the source after the bytes held.
-fn put(buffer: &mut [u8], held: usize, source: &[u8])
+pub(crate) fn put(buffer: &mut [u8], held: usize, source: &[u8])
     requires { ⌜ held + length (now source) ≤ length (now buffer) ⌝ }
     ensures { λ _. ⌜ now (buffer .exit)
         ≡ stream held (now (buffer .entry)) (now (source .entry)) ++ drop (held + length (now (source .entry))) (now (buffer .entry)) ⌝ }
 {
-    bytes::copy(source, &mut buffer[held..]);
+    copy_to(source, buffer, held);
 }
 
 // Takes bytes of the piece, after those held, until `goal` are there or the piece ends, and returns how many are there then.

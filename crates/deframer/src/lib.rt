@@ -4,6 +4,7 @@
 // piece that arrives to `deframe`, together with both, until the piece is taken; at the end of the input it asks `finish`.
 // No function here has a `requires`: each takes every argument, and refuses a bad one with an error code of document 01.
 mod fill;
+mod whole;
 
 use fixed_header::HEADER;
 use fixed_header::MAX_FRAME;
@@ -49,6 +50,10 @@ pub fn deframe(state: Deframer, buffer: &mut [u8], piece: &[u8]) -> Step
     let error = state.error;
     if buffer.len() < MAX_FRAME {
         return fill::refused(BUFFER_SHORT, state);
+    }
+    let size = whole::whole_size(state, piece);
+    if size != 0 {
+        return whole::take_whole(buffer, size, piece);
     }
     if !fill::known(state, buffer) {
         return fill::refused(STATE_UNKNOWN, state);

@@ -12,7 +12,7 @@ use lib.Seq.{length-take-le}
 use Rattle.laws.proofs.Booleans.{kept, both}
 use Rattle.fixed_header.specs.Header.{maxFrame, totalOf, headerSizeOf, headerError, declaredSize}
 use Rattle.fixed_header.specs.Header.{magicOk, dataTypeOk, streamTypeOk, totalOk, headerSizeOk}
-use Rattle.fixed_header.specs.Header.{reservedOk, typeFault, sizeFault, faultOf}
+use Rattle.fixed_header.specs.Header.{reservedOk, typeFault, faultOf}
 
 -- 16 bytes are judged by the rules only
 pub sixteen : (h : List ℕ) → length h ≡ 16 → headerError h ≡ faultOf h
@@ -79,6 +79,3 @@ pub types-pass : (a b d s : ℕ) → Passes (typeFault a b d s)
 types-pass a b d s =
     one-rule (magicOk a b) 3 (omega arith)
     (one-rule (dataTypeOk d) 4 (omega arith) (one-rule (streamTypeOk d s) 5 (omega arith) last-rule))
-
-pub sizes-pass : (d total size : ℕ) → Passes (sizeFault d total size)
-sizes-pass d total size = one-rule (totalOk total) 6 (omega arith) (one-rule (headerSizeOk d total size) 7 (omega arith) last-rule)

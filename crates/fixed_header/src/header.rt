@@ -12,6 +12,7 @@ use refusals::BAD_TOTAL;
 ghost use mathlib.Core.Path.{_≡_};
 ghost use Prim.Native.Nat.{_+_, _≤_, _<_};
 ghost use lib.ListN.{length};
+ghost use Rattle.laws.specs.Chains.{unless};
 ghost use Rattle.fixed_header.specs.Header.{be16Of, be32Of, totalOf, headerSizeOf, typeOf, headerIn};
 ghost use Rattle.fixed_header.specs.Header.{magicOk, streamTypeOk, totalOk, headerSizeOk, reservedOk, typeFault, sizeFault, faultOf};
 
@@ -69,21 +70,17 @@ fn frame_type(data_type: u8, stream_type: u8) -> FrameType
     FrameType::Close
 }
 
+// Both bytes in one comparison, the low one first.
 fn magic_ok(first: u8, second: u8) -> bool
     ensures { λ r. ⌜ r ≡ magicOk first second ⌝ }
 {
-    if first != 0x09 {
-        return false;
-    }
-    second == 0x30
+    wide(first) + wide(second) * 256 == 0x3009
 }
 
-fn stream_type_ok(data_type: u8, stream_type: u8) -> bool
-    ensures { λ r. ⌜ r ≡ streamTypeOk «data_type» «stream_type» ⌝ }
+// The stream type of a stream frame.
+fn stream_type_ok(stream_type: u8) -> bool
+    ensures { λ r. ⌜ r ≡ streamTypeOk 1 «stream_type» ⌝ }
 {
-    if data_type == 0 {
-        return true;
-    }
     if stream_type < 1 {
         return false;
     }
@@ -103,10 +100,8 @@ fn header_size_ok(data_type: u8, total: usize, size: usize) -> bool
     requires { ⌜ 16 ≤ total ⌝ }
     ensures { λ r. ⌜ r ≡ headerSizeOk «data_type» total size ⌝ }
 {
-    if data_type == 0 {
-        return size <= total - HEADER;
-    }
-    size == 0
+    let most = if data_type == 0 { total - HEADER } else { 0 };
+    size <= most
 }
 
 fn reserved_ok(first: u8, second: u8) -> bool
@@ -118,31 +113,37 @@ fn reserved_ok(first: u8, second: u8) -> bool
     second == 0
 }
 
-// 3, 4 or 5: the first rule of the magic and the types that is broken, 0 for none.
+// 3, 4 or 5: the first rule of the magic and the types that is broken, 0 for none. In unary the stream type is ignored.
 fn type_fault(first: u8, second: u8, data_type: u8, stream_type: u8) -> u32
     ensures { λ r. ⌜ r ≡ typeFault first second «data_type» «stream_type» 0 ⌝ }
 {
     if !magic_ok(first, second) {
         return BAD_MAGIC;
     }
+    if data_type == 0 {
+        return 0;
+    }
     if 1 < data_type {
         return BAD_DATA_TYPE;
     }
-    if !stream_type_ok(data_type, stream_type) {
+    if !stream_type_ok(stream_type) {
         return BAD_STREAM_TYPE;
     }
     0
 }
 
-// 6 or 7: the first rule of the sizes that is broken, 0 for none.
-fn size_fault(data_type: u8, total: usize, size: usize) -> u32
-    ensures { λ r. ⌜ r ≡ sizeFault «data_type» total size 0 ⌝ }
+// 6, 7 or 8: the first rule of the sizes and the reserved bytes that is broken, 0 for none.
+fn size_fault(data_type: u8, total: usize, size: usize, reserved: bool) -> u32
+    ensures { λ r. ⌜ r ≡ sizeFault «data_type» total size (unless reserved 8 0) ⌝ }
 {
     if !total_ok(total) {
         return BAD_TOTAL;
     }
     if !header_size_ok(data_type, total, size) {
         return BAD_HEADER_SIZE;
+    }
+    if !reserved {
+        return BAD_RESERVED;
     }
     0
 }
@@ -156,14 +157,7 @@ pub(crate) fn fault(h: &[u8]) -> u32
     if types != 0 {
         return types;
     }
-    let sizes = size_fault(h[2], total(h), header_size(h));
-    if sizes != 0 {
-        return sizes;
-    }
-    if !reserved_ok(h[14], h[15]) {
-        return BAD_RESERVED;
-    }
-    0
+    size_fault(h[2], total(h), header_size(h), reserved_ok(h[14], h[15]))
 }
 
 // What 16 bytes say.

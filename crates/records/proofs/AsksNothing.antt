@@ -7,5 +7,5 @@ use Rattle.records.proofs as entry
 pub record-of : AsksNothing entry.record_of.signature (λ M. entry.record_of.spec)
 record-of M 𝓤 H A mem run κs a = (tt, refl)
 
-pub content-of : AsksNothing entry.content_of.signature (λ M. entry.content_of.spec)
-content-of M 𝓤 H A mem run κs a = (tt, refl)
+pub slots-of : AsksNothing entry.slots_of.signature (λ M. entry.slots_of.spec)
+slots-of M 𝓤 H A mem run κs a = (tt, refl)

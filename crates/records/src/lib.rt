@@ -1,16 +1,17 @@
 // The record of each of the six kinds, and the slots of its message: from slots to record and from record to slots.
-mod contents;
 mod records;
+mod slots;
 
-use contents::close_content;
-use contents::init_content;
-use contents::request_content;
-use contents::response_content;
 use records::close_of;
 use records::init_of;
 use records::request_of;
 use records::response_of;
 use schema::Kind;
+use slots::close_slots;
+use slots::feedback_slots;
+use slots::init_slots;
+use slots::request_slots;
+use slots::response_slots;
 ghost use mathlib.Core.Path.{_≡_};
 ghost use Rattle.records.specs.Records.{recordOf};
 ghost use Rattle.records.specs.Content.{kindOf, recordId, rowCount, slotsOf};
@@ -106,11 +107,10 @@ pub enum Record {
     Close(Close),
 }
 
-// What the writer takes from a record: kind, id, the fields by the order of the kind's schema, and the row count.
-pub struct Content {
+// What a record is beside its fields.
+pub struct Outline {
     pub kind: Kind,
     pub id: u32,
-    pub values: [u32; 16],
     pub rows: u32,
 }
 
@@ -132,44 +132,42 @@ pub fn record_of(kind: Kind, id: u32, v: [u32; 16], rows: u32) -> Record
     }
 }
 
-// The content of a record.
-pub fn content_of(record: Record) -> Content
-    ensures { λ r. ⌜ (r .kind ≡ kindOf «record») × (r .id ≡ recordId «record») × (r .values ≡ slotsOf «record»)
-        × (r .rows ≡ rowCount «record») ⌝ }
+// What a record of this kind is beside its fields.
+fn beside(kind: Kind, id: u32, rows: u32) -> Outline
+    ensures { λ r. ⌜ (r .kind ≡ kind) × (r .id ≡ id) × (r .rows ≡ rows) ⌝ }
+{
+    Outline { kind, id, rows }
+}
+
+// Stores the fields of a record by the order of its kind's schema, as `record_of` takes them, and returns what else it is.
+pub fn slots_of(record: Record, slots: &mut [u32; 16]) -> Outline
+    ensures { λ r. ⌜ (r .kind ≡ kindOf «record») × (r .id ≡ recordId «record») × (r .rows ≡ rowCount «record»)
+        × (now (slots .exit) ≡ slotsOf «record») ⌝ }
 {
     match record {
-        Record::Request(r) => request_content(r),
-        Record::Response(r) => response_content(r),
-        Record::Init(r) => init_content(r),
-        Record::Data(r) => Content {
-            kind: Kind::Data,
-            id: r.id,
-            values: [0; 16],
-            rows: r.rows,
-        },
-        Record::Feedback(r) => Content {
-            kind: Kind::Feedback,
-            id: r.id,
-            values: [
-                r.window_size_increment,
-                0,
-                0,
-                0,
-                0,
-                0,
-                0,
-                0,
-                0,
-                0,
-                0,
-                0,
-                0,
-                0,
-                0,
-                0,
-            ],
-            rows: r.rows,
-        },
-        Record::Close(r) => close_content(r),
+        Record::Request(r) => {
+            *slots = request_slots(r);
+            beside(Kind::Request, r.id, r.rows)
+        }
+        Record::Response(r) => {
+            *slots = response_slots(r);
+            beside(Kind::Response, r.id, r.rows)
+        }
+        Record::Init(r) => {
+            *slots = init_slots(r);
+            beside(Kind::Init, r.id, r.rows)
+        }
+        Record::Data(r) => {
+            *slots = [0; 16];
+            beside(Kind::Data, r.id, r.rows)
+        }
+        Record::Feedback(r) => {
+            *slots = feedback_slots(r);
+            beside(Kind::Feedback, r.id, r.rows)
+        }
+        Record::Close(r) => {
+            *slots = close_slots(r);
+            beside(Kind::Close, r.id, r.rows)
+        }
     }
 }

@@ -12,6 +12,3 @@ field-target M 𝓤 H A mem run κs a = (tt, refl)
 
 pub message-schema : AsksNothing entry.message_schema.signature (λ M. entry.message_schema.spec)
 message-schema M 𝓤 H A mem run κs a = (tt, refl)
-
-pub item-at : AsksNothing entry.item_at.signature (λ M. entry.item_at.spec)
-item-at M 𝓤 H A mem run κs a = (tt, refl)

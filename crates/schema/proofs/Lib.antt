@@ -2,6 +2,5 @@
 mod FieldLaws
 -- For the layers above, too
 pub mod KindLaws
-pub mod ItemLaws
 -- Demand 1, of every public entry
 pub mod AsksNothing

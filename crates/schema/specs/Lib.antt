@@ -1,6 +1,5 @@
 -- The messages of source document 000, and the numbers by which code names them
 pub mod Schema
 pub mod Kinds
--- Reading and writing by them
+-- Reading by them
 pub mod Targets
-pub mod Items

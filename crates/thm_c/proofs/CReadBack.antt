@@ -24,6 +24,7 @@ use Rattle.records.specs.declared.Record.{Record}
 use Rattle.message.specs.declared.Answer.{Answer}
 use Rattle.message.specs.declared.Answer.the-variants as answers
 use Rattle.records.specs.Content.{kindOf, recordId, slotsOf}
+use Rattle.records.proofs.Made.{kind-is, id-is}
 use Rattle.writer.specs.Writing.{Writing, refusedWith, wrote, messageOf, frameOf, writeError, written}
 use Rattle.writer.specs.Writing.{errorOf, countOf}
 use Rattle.writer.specs.declared.Encoded.{Encoded}
@@ -45,24 +46,6 @@ use Rattle.thm_c.proofs.CReading.{header-part, body-part, attachment-pa
 
 -- ---- the record of a kind from its numbers
 module _ (id : ℕ) (l : List ℕ) (rows : ℕ) where
-  kind-is : (k : Kind) → kindOf (recordOf k id l rows) ≡ k
-  unfolding recordOf kindOf
-  kind-is kinds.Request = refl
-  kind-is kinds.Response = refl
-  kind-is kinds.Init = refl
-  kind-is kinds.Data = refl
-  kind-is kinds.Feedback = refl
-  kind-is kinds.Close = refl
-
-  id-is : (k : Kind) → recordId (recordOf k id l rows) ≡ id
-  unfolding recordOf recordId
-  id-is kinds.Request = refl
-  id-is kinds.Response = refl
-  id-is kinds.Init = refl
-  id-is kinds.Data = refl
-  id-is kinds.Feedback = refl
-  id-is kinds.Close = refl
-
   attachment-size-is : (k : Kind) → attachmentSizeOf (kindOf (recordOf k id l rows)) (slotsOf (recordOf k id l rows)) ≡ attachmentSizeOf k l
   unfolding recordOf kindOf slotsOf attachmentSizeOf
   attachment-size-is kinds.Request = refl

@@ -20,13 +20,14 @@ use Rattle.message.specs.declared.Answer.{Answer}
 use Rattle.message.specs.declared.Answer.the-variants as answers
 use Rattle.message.specs.declared.Located.{Located}
 use Rattle.records.specs.Content.{rowCount}
+use Rattle.records.proofs.Made.{count-is}
 use Rattle.bekurapi.specs.Numbers.{answerId, answerRows, answerSlots, numbersOf, recordFrom}
 use Rattle.thm_c.proofs.NumbersBack.{reading-back}
 use Rattle.thm_round_trip.specs.Refusals.{recordSpans}
 use Rattle.refusals.specs.Grounds.{Every}
 use Rattle.thm_round_trip.specs.Lies.{RowLies}
 use Rattle.thm_round_trip.specs.ReadWithin.{SpanLies, ReadWithin, spansIn, countedIn}
-use Rattle.thm_round_trip.proofs.ReadWithin.{blank-lies, record-lies, count-is, read-within}
+use Rattle.thm_round_trip.proofs.ReadWithin.{blank-lies, record-lies, read-within}
 use Rattle.thm_c.specs.Readings.{CRead, CReads}
 use Rattle.thm_c.specs.Within.{locatedFrom}
 
@@ -41,7 +42,7 @@ module _ (frame : List ℕ) (kind : Kind) where
       (answerRows (answers.Refused code)))
   unfolding rowsIn
   zero-handed code rows =
-      (record-lies frame kind 0 (blank .slots) 0 (blank-lies frame kind), rw (count-is frame kind 0 (blank .slots) 0) tt)
+      (record-lies frame kind 0 (blank .slots) 0 (blank-lies frame kind), rw (count-is 0 (blank .slots) 0 kind) tt)
 
   module _ (lent : List ℕ) where
     abbrev given : Reading

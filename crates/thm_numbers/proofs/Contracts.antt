@@ -38,7 +38,6 @@ use Rattle.fixed_header.proofs.«parse_header» as parse-header
 use Rattle.decoder.specs.Decoding.{decoded}
 use Rattle.decoder.specs.declared.Decoded.{Decoded}
 use Rattle.decoder.proofs.decode as decode
-use Rattle.records.specs.declared.Content.{Content}
 use Rattle.writer_checks.proofs.«content_error» as content-error
 use Rattle.queue.specs.declared.Job.{Job}
 use Rattle.queue.specs.declared.Queue.{Queue}
@@ -141,11 +140,12 @@ module _ {M : Type 1} (𝓤 : URA M) (H : Heap 𝓤) (A : Atoms 𝓤) (mem : Mem
   decode-ensures at end schema d after = refl
 
   -- ---- `writer_checks`
-  pub content-error-ensures : (c : Content) (body-size code : ℕ)
-      → content-error.clauses 𝓤 H A mem run (κ, (ι, tt)) (c, (s, (lent, (body-size, tt)))) .ensures tt code
-      (atExit content-error.ended (κ, (ι, tt)) (c, (s, (lent, (body-size, tt)))) (tt, (tt, (tt, (tt, tt)))))
-      ≡ fact 𝓤 (AsEnsured (calls.content-error c (now s) (now lent) body-size code))
-  content-error-ensures c body-size code = refl
+  pub content-error-ensures : (θ : Lft) (kind : Kind) (slots : RefT (List ℕ)) (count body-size code : ℕ)
+      → content-error.clauses 𝓤 H A mem run (θ, (κ, (ι, tt))) (kind, (slots, (count, (s, (lent, (body-size, tt)))))) .ensures tt code
+      (atExit content-error.ended (θ, (κ, (ι, tt))) (kind, (slots, (count, (s, (lent, (body-size, tt))))))
+      (tt, (tt, (tt, (tt, (tt, (tt, tt)))))))
+      ≡ fact 𝓤 (AsEnsured (calls.content-error kind (now slots) count (now s) (now lent) body-size code))
+  content-error-ensures θ kind slots count body-size code = refl
 
   -- ---- `queue`
   pub queue-add-ensures : (q : Queue) (j : Job) (a : Added)
@@ -245,6 +245,11 @@ module _ {M : Type 1} (𝓤 : URA M) (H : Heap 𝓤) (A : Atoms 𝓤) (mem : Mem
       → leftOf (round-trip.write-ensures 𝓤 H A mem run a b c d r source rows body out (w .answer) (w .output))
       ≡ fact 𝓤 (AsEnsured (calls.write r (now source) (now rows) (now body) (now out) w))
   write-is r source rows body out w = refl
+
+  pub write-slots-is : (kind : Kind) (id : ℕ) (slots : List ℕ) (count : ℕ) (source rows body out : RefT (List ℕ)) (w : Writing)
+      → leftOf (round-trip.write-slots-ensures 𝓤 H A mem run a b c d kind id slots count source rows body out (w .answer) (w .output))
+      ≡ fact 𝓤 (AsEnsured (calls.write-slots kind id slots count (now source) (now rows) (now body) (now out) w))
+  write-slots-is kind id slots count source rows body out w = refl
 
   pub trpc-header-check-is : (bytes : RefT (List ℕ)) (code : ℕ)
       → leftOf (c-calls.trpc-header-check-ensures 𝓤 H A mem run a b c d e f bytes code)

@@ -35,7 +35,10 @@ use Rattle.wire_read.proofs.Codes.{tag-code, length-code, value-code, groupIn-c
 use Rattle.decoder.specs.declared.Decoded.{Decoded}
 use Rattle.message.specs.Frames.{readFrame}
 use Rattle.message.specs.declared.Located.{Located}
-use Rattle.writer.specs.Writing.{written}
+use Rattle.records.specs.Records.{recordOf}
+use Rattle.records.specs.declared.Record.{Record}
+use Rattle.writer.specs.Writing.{Writing, written}
+use Rattle.thm_round_trip.specs.Calls.{Writes}
 use Rattle.writer.specs.declared.Encoded.{Encoded}
 use Rattle.laws.proofs.Booleans.{either}
 use Rattle.fixed_header.specs.Header.{maxFrame}
@@ -69,7 +72,8 @@ use Rattle.thm_c.proofs.CExactly.{parse-exactly, progress-number, c-check, c-pa
 use Rattle.thm_numbers.specs.AnyCall.{AnyCall, AsEnsured, numberIn, varintNumber, tagNumber, lengthNumber, skipNumber, fieldNumber}
 use Rattle.thm_numbers.specs.AnyCall.{check-header, parse-header, deframe, finish, read-varint, read-tag, read-length, skip-field}
 use Rattle.thm_numbers.specs.AnyCall.{next-field, reader-next, field-at, last-field, write-varint, write-tag, write-raw, write-bytes}
-use Rattle.thm_numbers.specs.AnyCall.{decode, read-spans, read, content-error, write, queue-add, queue-take, queue-cancel}
+use Rattle.thm_numbers.specs.AnyCall.{decode, read-spans, read, content-error, write, write-slots}
+use Rattle.thm_numbers.specs.AnyCall.{queue-add, queue-take, queue-cancel}
 use Rattle.thm_numbers.specs.AnyCall.{trpc-header-check, trpc-header-parse, trpc-deframe, trpc-finish, trpc-read, trpc-write}
 use Rattle.thm_numbers.specs.AnyCall.{trpc-queue-add, trpc-queue-take, trpc-queue-cancel}
 use Rattle.thm_numbers.proofs.FieldNumbers.{varint-usable, tag-usable, length-usable, skip-usable, field-usable, last-usable}
@@ -82,6 +86,13 @@ by-grounds e all a is = answer-usable e a is (first-in-use (e .grounds) all)
 -- an answer that is a number, or has it as a number
 as-number : (n : ℕ) → Usable (numberOf (byNumber n)) → Usable n
 as-number n = subst Usable (number-back n)
+
+write-usable : (r : Record) (source numbers body output : List ℕ) (w : Writing) → Writes r source numbers body output w
+    → Usable (numberOf (encodedSays (w .answer)))
+write-usable r source numbers body output w is =
+    subst (λ (a : Encoded). Usable (numberOf (encodedSays a))) (sym (is .0))
+    (by-grounds (writeEntry r source numbers body output) refl (written r source numbers body output)
+    (written-exactly r source numbers body output))
 
 pub given-in-use : (c : AnyCall) → AsEnsured c → Usable (numberIn c)
 unfolding stepAt
@@ -128,12 +139,11 @@ given-in-use (read-spans kind frame lent x rows) is =
     (answer-usable (readEntry kind frame lent) (readFrame kind frame lent) (read-exactly kind frame lent) (read-in-use kind frame lent))
 given-in-use (read kind frame lent x) is =
     answer-usable (readEntry kind frame lent) x (read-gives kind frame lent x is) (read-in-use kind frame lent)
-given-in-use (content-error c source numbers body-size code) is =
-    subst Usable (sym is) (content-usable (c .kind) (c .values) (c .rows) source numbers body-size)
-given-in-use (write r source numbers body output w) is =
-    subst (λ (a : Encoded). Usable (numberOf (encodedSays a))) (sym (is .0))
-    (by-grounds (writeEntry r source numbers body output) refl (written r source numbers body output)
-    (written-exactly r source numbers body output))
+given-in-use (content-error kind slots count source numbers body-size code) is =
+    subst Usable (sym is) (content-usable kind slots count source numbers body-size)
+given-in-use (write r source numbers body output w) is = write-usable r source numbers body output w is
+given-in-use (write-slots kind id slots count source numbers body output w) is =
+    write-usable (recordOf kind id slots count) source numbers body output w is
 given-in-use (queue-add q j a) is = as-number (a .error) (by-grounds (addEntry q j) refl a (add-gives q j a is))
 given-in-use (queue-take q a) is = as-number (a .error) (by-grounds (takeEntry q) refl a (take-gives q a is))
 given-in-use (queue-cancel q c r a) is = as-number (a .error) (by-grounds (cancelEntry q c r) refl a (cancel-gives q c r a is))

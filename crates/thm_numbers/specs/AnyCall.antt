@@ -34,7 +34,7 @@ use Rattle.deframer.specs.declared.End.{End}
 use Rattle.decoder.specs.Decoding.{decoded}
 use Rattle.decoder.specs.declared.Decoded.{Decoded}
 use Rattle.schema.specs.declared.Kind.{Kind}
-use Rattle.records.specs.declared.Content.{Content}
+use Rattle.records.specs.Records.{recordOf}
 use Rattle.records.specs.declared.Record.{Record}
 use Rattle.message.specs.Frames.{Reading}
 use Rattle.message.specs.declared.Located.{Located}
@@ -117,9 +117,10 @@ pub data AnyCall : Type 0 where
   -- `reader`
   read : (kind : Kind) (frame lent : List ℕ) (x : Reading) → AnyCall
   -- `writer_checks`
-  content-error : (c : Content) (source numbers : List ℕ) (body-size code : ℕ) → AnyCall
+  content-error : (kind : Kind) (slots : List ℕ) (count : ℕ) (source numbers : List ℕ) (body-size code : ℕ) → AnyCall
   -- `writer`
   write : (r : Record) (source numbers body output : List ℕ) (w : Writing) → AnyCall
+  write-slots : (kind : Kind) (id : ℕ) (slots : List ℕ) (count : ℕ) (source numbers body output : List ℕ) (w : Writing) → AnyCall
   -- `queue`
   queue-add : (q : Queue) (j : Job) (a : Added) → AnyCall
   queue-take : (q : Queue) (a : Removed) → AnyCall
@@ -157,8 +158,11 @@ AsEnsured (write-bytes n content out at x) = Tagged n 2 out at (putBytes n conte
 AsEnsured (decode frame at end schema lent d) = d ≡ decoded frame at end schema lent .answer
 AsEnsured (read-spans kind frame lent x rows) = Locates kind frame lent x rows
 AsEnsured (read kind frame lent x) = Reads kind frame lent x
-AsEnsured (content-error c source numbers body-size code) = code ≡ contentError (c .kind) (c .values) (c .rows) source numbers body-size
+AsEnsured (content-error kind slots count source numbers body-size code) =
+    code ≡ contentError kind slots count source numbers body-size
 AsEnsured (write r source numbers body output w) = Writes r source numbers body output w
+AsEnsured (write-slots kind id slots count source numbers body output w) =
+    Writes (recordOf kind id slots count) source numbers body output w
 AsEnsured (queue-add q j a) = a ≡ added q j
 AsEnsured (queue-take q a) = a ≡ taken q
 AsEnsured (queue-cancel q connection request a) = a ≡ cancelled q connection request
@@ -193,8 +197,9 @@ numberIn (write-bytes n content out at x) = numberOf (verdictOf (x .answer))
 numberIn (decode frame at end schema lent d) = d .error
 numberIn (read-spans kind frame lent x rows) = numberOf (answerSays (x .answer))
 numberIn (read kind frame lent x) = numberOf (answerSays (x .answer))
-numberIn (content-error c source numbers body-size code) = code
+numberIn (content-error kind slots count source numbers body-size code) = code
 numberIn (write r source numbers body output w) = numberOf (encodedSays (w .answer))
+numberIn (write-slots kind id slots count source numbers body output w) = numberOf (encodedSays (w .answer))
 numberIn (queue-add q j a) = a .error
 numberIn (queue-take q a) = a .error
 numberIn (queue-cancel q connection request a) = a .error

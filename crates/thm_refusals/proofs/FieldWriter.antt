@@ -22,8 +22,9 @@ use ghost.Atoms.{Atoms}
 use contract.Monad.{Fun, fact}
 use denote.Ref.{RefT, now}
 use denote.Triple.Clauses.{atExit}
-use Rattle.wire_write.specs.Writing.{putVarint, putTag, putBytes, goodTag, fits, firstGround, answer}
-use Rattle.wire_write.specs.Writing.{stored, writtenAt, tagStored, tagWritten}
+use Rattle.copying.specs.Stored.{fits, stored}
+use Rattle.wire_write.specs.Writing.{putVarint, putTag, putBytes, goodTag, firstGround, answer}
+use Rattle.wire_write.specs.Writing.{writtenAt, tagStored, tagWritten}
 use Rattle.wire_write.specs.declared.Written.{Written}
 use Rattle.wire_write.specs.declared.Written.the-variants as writes
 use Rattle.wire_write.proofs.write_varint as write-varint

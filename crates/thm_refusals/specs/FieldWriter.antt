@@ -5,7 +5,8 @@ use Prim.Native.Nat.{ℕ, _+_, _*_, _^_, _<_}
 use mathlib.Core.Path.{_≡_}
 use mathlib.Core.List.{List, [], _∷_, _++_}
 use lib.ListN.{length, take, drop}
-use Rattle.wire_write.specs.Writing.{stored, writtenAt, tagStored, tagWritten}
+use Rattle.copying.specs.Stored.{stored}
+use Rattle.wire_write.specs.Writing.{writtenAt, tagStored, tagWritten}
 use Rattle.wire_write.specs.declared.Written.{Written}
 use Rattle.wire_write.specs.declared.Written.the-variants as writes
 use Rattle.refusals.specs.Grounds.{ground, Verdict, refuses, works, Entry}

@@ -1,5 +1,5 @@
--- What `Writes` and `Locates` take a call of `write` and of `read_spans` to ensure is the `ensures` of its contract, and what `Held` takes
--- of a record is its type: the two are the same by computation, so neither can be changed without the other.
+-- What `Writes` and `Locates` take a call of `write`, of `write_slots` and of `read_spans` to ensure is the `ensures` of its contract, and
+-- what `Held` takes of a record is its type: the two are the same by computation, so neither can be changed without the other.
 -- Assumes nothing.
 use Prim.Native.Nat.{ℕ}
 use mathlib.Core.Path.{_≡_, refl}
@@ -23,7 +23,9 @@ use Rattle.schema.specs.declared.Kind.{Kind}
 use Rattle.message.specs.declared.Located.{Located}
 use Rattle.records.specs.declared.Record.{Record}
 use Rattle.writer.specs.declared.Encoded.{Encoded}
+use Rattle.records.specs.Records.{recordOf}
 use Rattle.writer.proofs.write as write
+use Rattle.writer.proofs.«write_slots» as «write_slots»
 use Rattle.thm_round_trip.specs.Calls.{Writes, Locates}
 
 pub write-ensures : {M : Type 1} (𝓤 : URA M) (H : Heap 𝓤) (A : Atoms 𝓤) (mem : Memory → SProp 𝓤) (run : Routine → Fun 𝓤) (a b c d : Lft)
@@ -33,7 +35,18 @@ pub write-ensures : {M : Type 1} (𝓤 : URA M) (H : Heap 𝓤) (A : Atoms 𝓤)
     ≡ fact 𝓤 (Writes r (now source) (now rows) (now body) (now out) (record { answer = answer; output = after }))
 write-ensures 𝓤 H A mem run a b c d r source rows body out answer after = refl
 
--- the record that a call of it is passed is of the type that `Held` names
+pub write-slots-ensures : {M : Type 1} (𝓤 : URA M) (H : Heap 𝓤) (A : Atoms 𝓤) (mem : Memory → SProp 𝓤) (run : Routine → Fun 𝓤)
+    (a b c d : Lft) (kind : Kind) (id : ℕ) (slots : List ℕ) (count : ℕ) (source rows body out : RefT (List ℕ)) (answer : Encoded)
+    (after : List ℕ)
+    → «write_slots».clauses 𝓤 H A mem run (a, (b, (c, (d, tt))))
+    (kind, (id, (slots, (count, (source, (rows, (body, (out, tt)))))))) .ensures tt answer
+    (atExit «write_slots».ended (a, (b, (c, (d, tt)))) (kind, (id, (slots, (count, (source, (rows, (body, (out, tt))))))))
+    (tt, (tt, (tt, (tt, (tt, (tt, (tt, (after, tt)))))))))
+    ≡ fact 𝓤
+    (Writes (recordOf kind id slots count) (now source) (now rows) (now body) (now out) (record { answer = answer; output = after }))
+write-slots-ensures 𝓤 H A mem run a b c d kind id slots count source rows body out answer after = refl
+
+-- the record that a call of `write` is passed is of the type that `Held` names
 pub write-takes : (κs : Lfts 4) → (others : List RattleType) × (typesAt (write.signature .params) κs ≡ declared.the-row ∷ others)
 write-takes κs = (_, refl)
 

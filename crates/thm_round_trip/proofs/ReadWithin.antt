@@ -31,6 +31,7 @@ use Rattle.schema.specs.declared.Kind.the-variants as kinds
 use Rattle.message.specs.declared.Answer.the-variants.{Read}
 use Rattle.message.proofs.SpansStand.{spans-stand}
 use Rattle.records.specs.Content.{rowCount}
+use Rattle.records.proofs.Made.{count-is}
 use Rattle.thm_round_trip.specs.Refusals.{recordSpans}
 use Rattle.refusals.specs.Grounds.{Every}
 use Rattle.thm_round_trip.specs.Lies.{Lies, RowLies, SpansLie}
@@ -94,15 +95,6 @@ module _ (f : List ℕ) where
   record-lies kinds.Feedback id l count h = tt
   record-lies kinds.Close id l count h = h
 
-  pub count-is : (kind : Kind) (id : ℕ) (slots : List ℕ) (count : ℕ) → rowCount (recordOf kind id slots count) ≡ count
-  unfolding recordOf rowCount
-  count-is kinds.Request id l count = refl
-  count-is kinds.Response id l count = refl
-  count-is kinds.Init id l count = refl
-  count-is kinds.Data id l count = refl
-  count-is kinds.Feedback id l count = refl
-  count-is kinds.Close id l count = refl
-
   -- ---- a reading
   record RecordLies (x : Reading) : Type 0 where
     fields : Every (SpanLies f) (spansIn (x .answer))
@@ -125,7 +117,7 @@ module _ (f : List ℕ) where
         let count = length (st .rows) in
         let r = recordOf kind (idOf f) (st .slots) count in
         let read : rowsIn count (laidOut (st .rows) lent) ≡ st .rows = rw (laid-split (st .rows) lent) (rowsIn-flat (st .rows) _) in
-        let same : rowsIn (rowCount r) (laidOut (st .rows) lent) ≡ st .rows = rw (count-is kind (idOf f) (st .slots) count) read in
+        let same : rowsIn (rowCount r) (laidOut (st .rows) lent) ≡ st .rows = rw (count-is (idOf f) (st .slots) count kind) read in
         choose RecordLies (leb (attachmentSizeOf kind (st .slots)) (length (bodyOf kind f))) _ _
         (λ e. record {
           fields =

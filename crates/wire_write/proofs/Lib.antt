@@ -6,6 +6,7 @@ pub mod Examples
 -- For the layers above, each law stated once.
 pub mod Encoding
 pub mod Outputs
+pub mod VarintLoop
 -- For the proofs of this crate's functions.
 mod SignedLaws
 -- Demand 1, of every public entry

@@ -1,36 +1,16 @@
--- What is stored in an output: one thing after another is both at once, and whether there is room.
+-- What a writer answers and leaves in its output: where there is room, and where there is none.
 use Prim.Native.Nat.{ℕ, _+_, _≤_, _<_}
 use mathlib.Core.Path.{_≡_, refl, sym, _∙_}
 use mathlib.Core.Bool.{Bool, true, false, cond}
 use mathlib.Core.List.{List, _++_}
-use lib.ListN.{length, take, drop, length-append}
-use lib.Seq.{sets, sets-eq, length-sets}
+use lib.ListN.{length, take, drop}
 use native.Mathlib.Omega.{arith}
 use borrow.Author.Tests.{le-leb, lt-leb, leb-true}
 use Rattle.refusals.specs.Numbers.{outputShort}
-use Rattle.laws.proofs.Lists.{sets-then}
-use Rattle.laws.proofs.Booleans.{clash, choose}
-use Rattle.wire_write.specs.Writing.{goodTag, fits, firstGround, answer, stored, writtenAt, tagStored, tagWritten}
+use Rattle.laws.proofs.Booleans.{clash}
+use Rattle.copying.specs.Stored.{fits, stored}
+use Rattle.wire_write.specs.Writing.{goodTag, firstGround, answer, writtenAt, tagStored, tagWritten}
 use Rattle.wire_write.specs.declared.Written.the-variants.{Next, Refused}
-
--- byte by byte
-pub stored-sets : (out : List ℕ) (at : ℕ) (x : List ℕ) → at + length x ≤ length out → stored out at x ≡ sets out at x
-unfolding stored
-stored-sets out at x h = rw (le-leb (at + length x) (length out) h) (sym (sets-eq x out at h))
-
-pub length-stored : (out : List ℕ) (at : ℕ) (x : List ℕ) → length (stored out at x) ≡ length out
-unfolding stored
-length-stored out at x =
-    choose (λ (l : List ℕ). length l ≡ length out) (fits out at x) (take at out ++ x ++ drop (at + length x) out) out
-    (λ e. rw (sym (sets-eq x out at (leb-true (at + length x) (length out) e))) (length-sets out at x)) (λ e. refl)
-
-pub stored-then : (out : List ℕ) (at : ℕ) (x y : List ℕ) → at + length x + length y ≤ length out
-    → stored (stored out at x) (at + length x) y ≡ stored out at (x ++ y)
-stored-then out at x y h =
-    let first : at + length x ≤ length out = omega arith in
-    let all : at + length (x ++ y) ≤ length out = omega (arith, length-append x y) in
-    stored-sets (stored out at x) (at + length x) y (omega (arith, length-stored out at x))
-    ∙ rw (stored-sets out at x first, stored-sets out at (x ++ y) all) (sets-then out at (at + length x) x y refl)
 
 -- there is room, or not
 module _ (out : List ℕ) (at : ℕ) (x : List ℕ) where

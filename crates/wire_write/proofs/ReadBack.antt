@@ -190,6 +190,15 @@ signed-bits z h =
     let low : signExtended z % 2 ^ 32 % 2 ^ 32 ≡ signExtended z % 2 ^ 32 = omega arith in
     ap twosComplement low ∙ signed-back z h
 
+-- and so do the bits of the int32 that 32 bits say
+pub bits-back : (n : ℕ) → n < 2 ^ 32 → lowU32 (signExtended (lowI32 n)) ≡ n
+unfolding signExtended twosComplement
+bits-back n small = rw (mod-eq-of-lt small) (by (ltb n (2 ^ 31)) refl)
+  where
+    by : (b : Bool) → ltb n (2 ^ 31) ≡ b → lowU32 (signExtended (cond b (pos n) (negsuc (2 ^ 32 - 1 - n)))) ≡ n
+    by true e = mod-eq-of-lt small
+    by false e = let large = ltb-false n (2 ^ 31) e in omega arith
+
 -- a negative int32, -1 - n, and what it is written as are 2^64 together
 pub signed-whole : (n : ℕ) → n < 2 ^ 31 → signExtended (negsuc n) + suc n ≡ 2 ^ 64
 unfolding signExtended

@@ -15,7 +15,8 @@ use Rattle.wire_read.specs.Part.{part}
 use Rattle.wire_read.specs.Varint.{varint}
 use Rattle.wire_read.specs.Tags.{tag}
 use Rattle.wire_read.specs.Fields.{nextField}
-use Rattle.wire_write.specs.Writing.{putVarint, putTag, putBytes, goodTag, fits, stored, writtenAt, tagStored, tagWritten}
+use Rattle.copying.specs.Stored.{fits, stored}
+use Rattle.wire_write.specs.Writing.{putVarint, putTag, putBytes, goodTag, writtenAt, tagStored, tagWritten}
 use Rattle.wire_read.specs.Placed.{varintAt, tagAt, fieldAt}
 use Rattle.wire_read.specs.declared.Varint.the-variants as varints
 use Rattle.wire_read.specs.declared.Tag.the-variants as tags

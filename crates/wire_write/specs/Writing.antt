@@ -1,11 +1,12 @@
--- What is written for a varint, a tag and a field of bytes, how it goes into the output, and what a writer answers.
+-- What is written for a varint, a tag and a field of bytes, and what a writer answers. `fits` and `stored` are of `copying`.
 use Prim.Native.Nat.{ℕ, zero, suc, _+_, _*_, _-_, _/_, _%_, _^_}
 use mathlib.Core.Bool.{Bool, true, cond, _&&_}
 use mathlib.Core.List.{List, [], _∷_, _++_}
-use lib.ListN.{length, take, drop}
-use lib.Dec.{ltb, leb}
+use lib.ListN.{length}
+use lib.Dec.{ltb}
 use lib.IntN.{ℤ, pos, negsuc}
 use Rattle.refusals.specs.Numbers.{badTag, outputShort}
+use Rattle.copying.specs.Stored.{fits, stored}
 use Rattle.wire_write.specs.declared.Written.{Written}
 use Rattle.wire_write.specs.declared.Written.the-variants as writes
 
@@ -39,10 +40,6 @@ putBytes n content = putTag n 2 ++ putVarint (length content) ++ content
 unfoldable pub goodTag : ℕ → ℕ → Bool
 goodTag n w = ltb (n * 8 + w) (2 ^ 32) && (ltb 0 n && ltb w 6)
 
--- there is room for `x` in `out` from place `at`
-abbrev pub fits : List ℕ → ℕ → List ℕ → Bool
-fits out at x = leb (at + length x) (length out)
-
 -- the first ground of refusal, 0 for none: 11, then 27, "output shorter than the frame", here than what is to be written
 abbrev pub firstGround : (good room : Bool) → ℕ
 firstGround good room = cond good (cond room 0 outputShort) badTag
@@ -54,10 +51,6 @@ firstGround good room = cond good (cond room 0 outputShort) badTag
 abbrev pub answer : (error next : ℕ) → Written
 answer zero next = writes.Next next
 answer (suc error) next = writes.Refused (suc error)
-
--- `out` with `x` from place `at`; unchanged where there is no room
-unfoldable pub stored : List ℕ → ℕ → List ℕ → List ℕ
-stored out at x = cond (fits out at x) (take at out ++ x ++ drop (at + length x) out) out
 
 -- the answer: the next place after `x`, written to `out` from place `at`
 unfoldable pub writtenAt : List ℕ → ℕ → List ℕ → Written

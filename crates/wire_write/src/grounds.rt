@@ -1,5 +1,5 @@
 // What is looked at before a byte is stored, in document 01's order: 11, then 27.
-use crate::storing::has_room;
+use copying::has_room;
 use refusals::BAD_TAG;
 use refusals::OUTPUT_SHORT;
 ghost use mathlib.Core.Path.{_≡_};

@@ -6,14 +6,16 @@
 mod grounds;
 mod storing;
 
+use copying::copy_short_to;
+use copying::has_room;
 use grounds::first_ground;
 use grounds::good_tag;
 use grounds::has_room_for_both;
 use refusals::OUTPUT_SHORT;
-use storing::has_room;
 use storing::put_varint;
 ghost use mathlib.Core.Path.{_≡_};
-ghost use Rattle.wire_write.specs.Writing.{putVarint, putTag, putBytes, signExtended, stored, writtenAt, tagStored, tagWritten};
+ghost use Rattle.copying.specs.Stored.{stored};
+ghost use Rattle.wire_write.specs.Writing.{putVarint, putTag, putBytes, signExtended, writtenAt, tagStored, tagWritten};
 ghost use lib.ListN.{length};
 
 // The next place of the output; or the refusal number: 11, the tag is bad, or 27, the output is
@@ -79,8 +81,8 @@ pub fn write_raw(content: &[u8], out: &mut [u8], at: usize) -> Written
     ensures { λ r. ⌜ (r ≡ writtenAt (now (out .entry)) at (now (content .entry)))
         × (now (out .exit) ≡ stored (now (out .entry)) at (now (content .entry))) ⌝ }
 {
-    if has_room(out, at, content.len()) {
-        return Written::Next(at + bytes::copy(content, &mut out[at..]));
+    if copy_short_to(content, out, at) {
+        return Written::Next(at + content.len());
     }
     Written::Refused(OUTPUT_SHORT)
 }

@@ -1,20 +1,9 @@
-// Bytes that go into an output with room for them.
+// A varint that goes into an output with room for it.
 ghost use mathlib.Core.Path.{_≡_};
 ghost use Prim.Native.Nat.{_+_, _≤_};
-ghost use lib.Dec.{leb};
 ghost use lib.ListN.{length};
-ghost use Rattle.wire_write.specs.Writing.{putVarint, stored};
-
-// There is room for `size` bytes from the place `at`.
-pub(crate) fn has_room(out: &[u8], at: usize, size: usize) -> bool
-    ensures { λ r. ⌜ r ≡ leb (at + size) (length (now (out .entry))) ⌝ }
-{
-    if at <= out.len() {
-        size <= out.len() - at
-    } else {
-        false
-    }
-}
+ghost use Rattle.copying.specs.Stored.{stored};
+ghost use Rattle.wire_write.specs.Writing.{putVarint};
 
 // Stores the shortest varint of `v`, and returns the place after it.
 pub(crate) fn put_varint(v: u64, out: &mut [u8], at: usize) -> usize

@@ -1,10 +1,13 @@
 -- For the proofs of this crate's functions
-mod Outputs
-mod Lengths
-mod Messages
+mod Stores
+mod RowLoop
+mod Pieces
+mod Measures
+mod Most
+mod Frames
+mod ByKind
+mod Parts
 mod Refusals
-mod LeftOut
-mod FieldLists
-mod ItemCases
+mod Slots
 -- Demand 1, of every public entry
 pub mod AsksNothing

@@ -1,40 +1,55 @@
--- What `write_content` answers of a content that has no error is what `written` says of its record.
+-- The refusals in two steps, those that need no size and then 19 and 27, are those that `written` says of a record.
 use Prim.Native.Nat.{ℕ, _+_, _≤_}
-use mathlib.Core.Path.{_≡_, sym, _∙_}
+use mathlib.Core.Path.{_≡_, refl, sym, _∙_}
+use mathlib.Core.Bool.{Bool, true, false, cond}
 use mathlib.Core.List.{List, _++_}
-use lib.ListN.{length, drop, length-append}
+use lib.ListN.{length, length-append}
+use lib.Seq.{sets-eq}
 use lib.Dec.{leb, eqb}
 use native.Mathlib.Omega.{arith}
-use borrow.Author.Tests.{le-leb, leb-true, ne-eqb}
-use Rattle.laws.specs.Chains.{unless}
+use borrow.Author.Tests.{leb-true, ne-eqb}
 use Rattle.laws.proofs.Booleans.{kept}
 use Rattle.fixed_header.specs.Header.{maxFrame}
 use Rattle.fixed_header.specs.Put.{fixedHeader}
 use Rattle.fixed_header.proofs.RoundTrip.{sixteen-bytes}
-use Rattle.wire_write.specs.Writing.{stored}
+use Rattle.schema.specs.declared.Kind.{Kind}
 use Rattle.records.specs.declared.Record.{Record}
 use Rattle.records.specs.Content.{kindOf, recordId, rowCount, slotsOf}
-use Rattle.writer.specs.Writing.{headerFor, messageOf, frameOf, sizeError, writeError, written}
 use Rattle.writer_checks.specs.Grounds.{contentError}
-use Rattle.writer.specs.Items.{Puts, messageIn, frameWith, writtenWith}
+use Rattle.writer.specs.Writing.{headerFor, frameOf, sizeError, writeError, Writing, refusedWith, written}
+use Rattle.writer.specs.Straight.{Did, messageIn, frameWith, writtenWith, writtenFrom}
 use Rattle.writer.specs.declared.Encoded.the-variants.{Frame, Refused}
-use Rattle.records.specs.declared.Content.{Content}
 
-module _ (r : Record) (source numbers body : List ℕ) where
-  pub frame-length : length (frameOf r source numbers body) ≡ 16 + length (messageOf r source numbers) + length body
-  unfolding frameOf
-  frame-length =
-      let m = messageOf r source numbers in
-      let h = headerFor (kindOf r) (recordId r) m body in
-      length-append (fixedHeader h ++ m) body ∙ rw (length-append (fixedHeader h) m, sixteen-bytes h)
+frame-length : (kind : Kind) (id : ℕ) (m body : List ℕ) → length (frameWith kind id m body) ≡ 16 + length m + length body
+frame-length kind id m body =
+    let h = headerFor kind id m body in
+    length-append (fixedHeader h ++ m) body ∙ rw (length-append (fixedHeader h) m, sixteen-bytes h)
 
-  pub error-is : (room : ℕ)
-      → writeError r source numbers body room
-      ≡ unless (eqb (contentError (kindOf r) (slotsOf r) (rowCount r) source numbers (length body)) 0)
-      (contentError (kindOf r) (slotsOf r) (rowCount r) source numbers (length body))
-      (sizeError (16 + length (messageOf r source numbers) + length body) room)
-  unfolding writeError
-  error-is room = rw frame-length
+-- a number that is not 0 decides
+chained : (e size : ℕ) (good : Writing) (output : List ℕ)
+    → cond (eqb e 0) (cond (eqb size 0) good (refusedWith size output)) (refusedWith e output)
+    ≡ cond (eqb (cond (eqb e 0) size e) 0) good (refusedWith (cond (eqb e 0) size e) output)
+chained e size good output = by (eqb e 0) refl
+  where
+    by : (b : Bool) → eqb e 0 ≡ b
+        → cond b (cond (eqb size 0) good (refusedWith size output)) (refusedWith e output)
+        ≡ cond (eqb (cond b size e) 0) good (refusedWith (cond b size e) output)
+    by true h = refl
+    by false h = rw h
+
+-- what is written of a record
+of-record : (r : Record) (source numbers body output : List ℕ)
+    → writtenFrom (kindOf r) (recordId r) (slotsOf r) (rowCount r) source numbers body output ≡ written r source numbers body output
+unfolding frameOf writeError
+of-record r source numbers body output =
+    let m = messageIn (kindOf r) (slotsOf r) (rowCount r) source numbers in
+    rw (frame-length (kindOf r) (recordId r) m body)
+    (chained (contentError (kindOf r) (slotsOf r) (rowCount r) source numbers (length body)) _ _ output)
+
+pub as-record : (r : Record) {kind : Kind} {id : ℕ} {slots : List ℕ} {count : ℕ}
+    → kind ≡ kindOf r → id ≡ recordId r → slots ≡ slotsOf r → count ≡ rowCount r → (source numbers body output : List ℕ)
+    → writtenFrom kind id slots count source numbers body output ≡ written r source numbers body output
+as-record r e f g h source numbers body output = rw (e, f, g, h) (of-record r source numbers body output)
 
 -- ---- what is answered
 
@@ -46,46 +61,28 @@ no-error total room e =
     let b = kept (leb total room) 27 0 (omega arith) (a .1) in
     (leb-true _ _ (a .0), leb-true _ _ (b .0))
 
-module _ (c : Content) (header body output : List ℕ) (e : ℕ)
-    (is-e : e ≡ sizeError (16 + length header + length body) (length output)) where
+module _ (kind : Kind) (id : ℕ) (m body output : List ℕ) (e : ℕ) (is-e : e ≡ sizeError (16 + length m + length body) (length output)) where
   pub refused-size : (e ≡ 0 → ⊥)
-      → (Refused e ≡ writtenWith c header body output .answer) × (output ≡ writtenWith c header body output .output)
+      → (Refused e ≡ writtenWith kind id m body output .answer) × (output ≡ writtenWith kind id m body output .output)
   refused-size h = (rw (← is-e, ne-eqb e 0 h), rw (← is-e, ne-eqb e 0 h))
 
-  with-length : length (frameWith c header body) ≡ 16 + length header + length body
-  with-length =
-      let h = headerFor (c .kind) (c .id) header body in
-      length-append (fixedHeader h ++ header) body ∙ rw (length-append (fixedHeader h) header, sixteen-bytes h)
-
-  pub framed : e ≡ 0 → {r : ℕ} {after : List ℕ} → Puts (frameWith c header body) output 0 r after
-      → (Frame r ≡ writtenWith c header body output .answer) × (after ≡ writtenWith c header body output .output)
-  unfolding stored
+  pub framed : e ≡ 0 → {r : ℕ} {after : List ℕ} → Did (frameWith kind id m body) output 0 r after
+      → (Frame r ≡ writtenWith kind id m body output .answer) × (after ≡ writtenWith kind id m body output .output)
   framed h {r} {after} p =
-      let fits : length (frameWith c header body) ≤ length output =
-      omega (arith, with-length, no-error (16 + length header + length body) (length output) (sym is-e ∙ h)) in
-      let none : sizeError (16 + length header + length body) (length output) ≡ 0 = sym is-e ∙ h in
-      let from-start : 0 + length (frameWith c header body) ≡ length (frameWith c header body) = omega arith in
-      let here : after ≡ frameWith c header body ++ drop (length (frameWith c header body)) output =
-      rw (from-start, le-leb (length (frameWith c header body)) (length output) fits) at (p .bytes) in
-      (rw (none, p .place, from-start), rw none here)
+      let none : sizeError (16 + length m + length body) (length output) ≡ 0 = sym is-e ∙ h in
+      let fits = no-error (16 + length m + length body) (length output) none in
+      let from-start : 0 + length (frameWith kind id m body) ≡ length (frameWith kind id m body) = omega arith in
+      let stored = sets-eq (frameWith kind id m body) output 0 (omega (arith, frame-length kind id m body)) in
+      (rw (none, p .place, from-start), rw none (p .bytes ∙ stored ∙ rw from-start))
 
-module _ (r : Record) (source numbers body output : List ℕ) (c : Content)
-    (is-c : (c .kind ≡ kindOf r) × (c .id ≡ recordId r) × (c .values ≡ slotsOf r) × (c .rows ≡ rowCount r))
-    (e : ℕ) (is-e : e ≡ contentError (c .kind) (c .values) (c .rows) source numbers (length body)) where
-  of-record : e ≡ contentError (kindOf r) (slotsOf r) (rowCount r) source numbers (length body)
-  of-record = rw (is-c .0, is-c .2, is-c .3) at is-e
-
+module _ (kind : Kind) (id : ℕ) (slots : List ℕ) (count : ℕ) (source numbers body output : List ℕ)
+    (e : ℕ) (is-e : e ≡ contentError kind slots count source numbers (length body)) where
   pub refused-content : (e ≡ 0 → ⊥)
-      → (Refused e ≡ written r source numbers body output .answer) × (output ≡ written r source numbers body output .output)
-  refused-content h =
-      let same : writeError r source numbers body (length output) ≡ e = error-is r source numbers body (length output)
-      ∙ rw (← of-record, ne-eqb e 0 h) in
-      (rw (same, ne-eqb e 0 h), rw (same, ne-eqb e 0 h))
+      → (Refused e ≡ writtenFrom kind id slots count source numbers body output .answer)
+      × (output ≡ writtenFrom kind id slots count source numbers body output .output)
+  refused-content h = (rw (← is-e, ne-eqb e 0 h), rw (← is-e, ne-eqb e 0 h))
 
-  pub accepted-content : e ≡ 0 → writtenWith c (messageIn c source numbers) body output ≡ written r source numbers body output
-  unfolding frameOf
-  accepted-content h =
-      let same : writeError r source numbers body (length output)
-      ≡ sizeError (16 + length (messageOf r source numbers) + length body) (length output) =
-      error-is r source numbers body (length output) ∙ rw (← of-record, h) in
-      rw (same, is-c .0, is-c .1, is-c .2, is-c .3)
+  pub accepted-content : e ≡ 0
+      → writtenWith kind id (messageIn kind slots count source numbers) body output
+      ≡ writtenFrom kind id slots count source numbers body output
+  accepted-content h = rw (← is-e, h)

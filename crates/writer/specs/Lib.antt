@@ -2,4 +2,4 @@
 pub mod Encoding
 pub mod Writing
 -- What the private functions promise each other
-pub mod Items
+pub mod Straight

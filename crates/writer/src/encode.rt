@@ -1,55 +1,22 @@
-// A frame of a record: the refusals in their order, then the 16 bytes, the message and the body.
+// A frame: its message after the room for the 16 bytes, its body, then the 16 bytes with the sizes reached.
 use crate::Encoded;
-use crate::put::place_behind;
-use crate::put::put_message;
-use crate::sizes::Sizes;
-use crate::sizes::message_sizes;
+use crate::bounds::message_error;
+use crate::fields::put_message;
 use fixed_header::FixedHeader;
 use fixed_header::FrameType;
 use fixed_header::HEADER;
-use fixed_header::MAX_FRAME;
 use fixed_header::put_header;
-use records::Content;
-use refusals::FRAME_OVER;
-use refusals::OUTPUT_SHORT;
 use schema::Kind;
-use schema::schema_number;
+use writer_checks::content_error;
 ghost use mathlib.Core.Path.{_≡_};
 ghost use mathlib.Core.Bool.{true};
 ghost use Prim.Native.Nat.{_+_, _≤_};
 ghost use lib.ListN.{length};
 ghost use Rattle.fixed_header.specs.Header.{maxFrame};
-ghost use Rattle.decoder.specs.Rows.{rowsIn};
-ghost use Rattle.writer.specs.Writing.{frameTypeOf, headerSize, sizeError};
-ghost use Rattle.schema.specs.Kinds.{schemaNumber};
-ghost use Rattle.writer.specs.Items.{sizesOf, messageWithin, mostMessage, SizeOf, Puts};
-ghost use Rattle.writer.specs.Items.{Lent, RowsIn, messageIn, frameWith, writtenWith};
-
-// The size of a frame; of one that is over 65,536, some size that is over it. Such a sum could pass what a number holds.
-fn frame_size(size: usize, body: usize) -> usize
-    requires { ⌜ size ≤ mostMessage ⌝ }
-    ensures { λ r. ⌜ SizeOf (16 + size + body) r ⌝ }
-{
-    if body > MAX_FRAME {
-        return MAX_FRAME + 1;
-    }
-    HEADER + size + body
-}
-
-// 19: the frame; 27: the output. 0 for none.
-fn size_error(size: usize, body: usize, room: usize) -> u32
-    requires { ⌜ size ≤ mostMessage ⌝ }
-    ensures { λ r. ⌜ r ≡ sizeError (16 + size + body) room ⌝ }
-{
-    let total = frame_size(size, body);
-    if total > MAX_FRAME {
-        return FRAME_OVER;
-    }
-    if room < total {
-        return OUTPUT_SHORT;
-    }
-    0
-}
+ghost use Rattle.schema.specs.Kinds.{schemaOf};
+ghost use Rattle.writer_checks.specs.Grounds.{spansWithin};
+ghost use Rattle.writer.specs.Writing.{frameTypeOf, headerSize};
+ghost use Rattle.writer.specs.Straight.{Lent, RowsIn, Did, messageIn, frameWith, writtenWith, writtenFrom};
 
 fn frame_type(kind: Kind) -> FrameType
     ensures { λ r. ⌜ r ≡ frameTypeOf kind ⌝ }
@@ -77,55 +44,90 @@ fn header_size(frame_type: FrameType, size: usize) -> usize
     }
 }
 
-// The whole frame, for which there is room; returns its size.
+fn put_body(body: &[u8], out: &mut [u8], at: usize) -> usize
+    requires { ⌜ at + length (now body) ≤ length (now out) ⌝ }
+    ensures { λ r. ⌜ Did (now (body .entry)) (now (out .entry)) at r (now (out .exit)) ⌝ }
+{
+    wire_write::write_raw(body, out, at);
+    at + body.len()
+}
+
+// The frame, for which there is room; returns its size.
 fn put_frame(
-    c: Content,
-    sizes: Sizes,
+    kind: Kind,
+    id: u32,
+    n: &[u32; 16],
+    count: usize,
     source: &[u8],
     rows: &[u32],
     body: &[u8],
     out: &mut [u8],
 ) -> usize
-    requires { ⌜ RowsIn (c .rows) (now source) (now rows)
-        × (messageWithin (length (now source)) (c .values) (schemaNumber (c .kind)) ≡ true)
-        × (sizes ≡ sizesOf (rowsIn (c .rows) (now rows)) (c .values) (schemaNumber (c .kind)))
-        × (16 + sizes .message + length (now body) ≤ maxFrame) × (16 + sizes .message + length (now body) ≤ length (now out)) ⌝ }
-    ensures { λ r. ⌜ Puts (frameWith c (messageIn c (now (source .entry)) (now (rows .entry))) (now (body .entry)))
+    requires { ⌜ Lent count (now rows) × RowsIn count (now source) (now rows)
+        × (spansWithin (length (now source)) (schemaOf kind) 0 (now n) ≡ true)
+        × (16 + length (messageIn kind (now n) count (now source) (now rows)) + length (now body) ≤ maxFrame)
+        × (16 + length (messageIn kind (now n) count (now source) (now rows)) + length (now body) ≤ length (now out)) ⌝ }
+    ensures { λ r. ⌜ Did
+        (frameWith kind id (messageIn kind (now (n .entry)) count (now (source .entry)) (now (rows .entry))) (now (body .entry)))
         (now (out .entry)) 0 r (now (out .exit)) ⌝ }
 {
-    let kind = c.kind;
-    let types = frame_type(kind);
+    let end = put_message(kind, n, count, source, rows, out, HEADER);
+    let total = put_body(body, out, end);
+    let header_type = frame_type(kind);
     let header = FixedHeader {
-        frame_type: types,
-        total: HEADER + sizes.message + body.len(),
-        header_size: header_size(types, sizes.message),
-        id: c.id,
+        frame_type: header_type,
+        total,
+        header_size: header_size(header_type, end - HEADER),
+        id,
     };
-    let start = put_header(header, out);
-    let end = put_message(schema_number(kind), c, sizes, source, rows, out, start);
-    place_behind(wire_write::write_raw(body, out, end), end)
+    put_header(header, out);
+    total
 }
 
-// Of a content that has no other ground of refusal.
-pub(crate) fn write_content(
-    c: Content,
+// Of slots that have no ground of refusal before 19.
+fn write_frame(
+    kind: Kind,
+    id: u32,
+    n: &[u32; 16],
+    count: usize,
     source: &[u8],
     rows: &[u32],
     body: &[u8],
     out: &mut [u8],
 ) -> Encoded
-    requires { ⌜ Lent (c .rows) (now rows) × RowsIn (c .rows) (now source) (now rows)
-        × (messageWithin (length (now source)) (c .values) (schemaNumber (c .kind)) ≡ true) ⌝ }
-    ensures { λ r. ⌜ (r ≡ writtenWith c (messageIn c (now (source .entry)) (now (rows .entry))) (now (body .entry))
-        (now (out .entry)) .answer)
-        × (now (out .exit) ≡ writtenWith c (messageIn c (now (source .entry)) (now (rows .entry))) (now (body .entry))
-        (now (out .entry)) .output) ⌝ }
+    requires { ⌜ Lent count (now rows) × RowsIn count (now source) (now rows)
+        × (spansWithin (length (now source)) (schemaOf kind) 0 (now n) ≡ true) ⌝ }
+    ensures { λ r. ⌜ (r ≡ writtenWith kind id (messageIn kind (now (n .entry)) count (now (source .entry)) (now (rows .entry)))
+        (now (body .entry)) (now (out .entry)) .answer)
+        × (now (out .exit) ≡ writtenWith kind id (messageIn kind (now (n .entry)) count (now (source .entry)) (now (rows .entry)))
+        (now (body .entry)) (now (out .entry)) .output) ⌝ }
 {
-    let kind = c.kind;
-    let sizes = message_sizes(schema_number(kind), c, rows);
-    let error = size_error(sizes.message, body.len(), out.len());
+    let error = message_error(kind, n, count, rows, body.len(), out.len());
     if error != 0 {
         return Encoded::Refused(error);
     }
-    Encoded::Frame(put_frame(c, sizes, source, rows, body, out))
+    Encoded::Frame(put_frame(kind, id, n, count, source, rows, body, out))
+}
+
+// The frame of a kind, an id, slots and a row count.
+pub(crate) fn write_values(
+    kind: Kind,
+    id: u32,
+    n: &[u32; 16],
+    count: u32,
+    source: &[u8],
+    rows: &[u32],
+    body: &[u8],
+    out: &mut [u8],
+) -> Encoded
+    ensures { λ r. ⌜ (r ≡ writtenFrom kind id (now (n .entry)) count (now (source .entry)) (now (rows .entry)) (now (body .entry))
+        (now (out .entry)) .answer)
+        × (now (out .exit) ≡ writtenFrom kind id (now (n .entry)) count (now (source .entry)) (now (rows .entry)) (now (body .entry))
+        (now (out .entry)) .output) ⌝ }
+{
+    let ground = content_error(kind, n, count, source, rows, body.len());
+    if ground != 0 {
+        return Encoded::Refused(ground);
+    }
+    write_frame(kind, id, n, count as usize, source, rows, body, out)
 }

@@ -2,7 +2,8 @@
 ghost use mathlib.Core.Path.{_≡_};
 ghost use Prim.Native.Nat.{_+_, _*_, _≤_};
 ghost use lib.ListN.{length};
-ghost use Rattle.writer.specs.Items.{rowOf, rowAt};
+ghost use Rattle.writer.specs.Straight.{rowAt};
+ghost use Rattle.writer.specs.Straight.{rowOf};
 
 pub(crate) struct MapEntry {
     pub key: u32,

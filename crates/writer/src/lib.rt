@@ -1,14 +1,18 @@
 // The writer of frames: what a record, the bytes that its starts refer to, its rows and a body are as one of six kinds.
+mod bounds;
 mod encode;
 mod entry;
+mod fields;
+mod init;
 mod put;
 mod sizes;
 
-use encode::write_content;
+use encode::write_values;
 use records::Record;
-use records::content_of;
-use writer_checks::content_error;
+use records::slots_of;
+use schema::Kind;
 ghost use mathlib.Core.Path.{_≡_};
+ghost use Rattle.records.specs.Records.{recordOf};
 ghost use Rattle.writer.specs.Writing.{written};
 
 // How many bytes the frame has that was written, or the error code.
@@ -23,10 +27,29 @@ pub fn write(record: Record, source: &[u8], rows: &[u32], body: &[u8], out: &mut
     ensures { λ r. ⌜ (r ≡ written «record» (now (source .entry)) (now (rows .entry)) (now (body .entry)) (now (out .entry)) .answer)
         × (now (out .exit) ≡ written «record» (now (source .entry)) (now (rows .entry)) (now (body .entry)) (now (out .entry)) .output) ⌝ }
 {
-    let c = content_of(record);
-    let error = content_error(c, source, rows, body.len());
-    if error != 0 {
-        return Encoded::Refused(error);
-    }
-    write_content(c, source, rows, body, out)
+    let mut slots = [0; 16];
+    let outline = slots_of(record, &mut slots);
+    let kind = outline.kind;
+    let id = outline.id;
+    let row_count = outline.rows;
+    write_values(kind, id, &slots, row_count, source, rows, body, out)
+}
+
+// The same of the record that a kind, an id, slots and a row count make, without making it.
+pub fn write_slots(
+    kind: Kind,
+    id: u32,
+    slots: [u32; 16],
+    count: u32,
+    source: &[u8],
+    rows: &[u32],
+    body: &[u8],
+    out: &mut [u8],
+) -> Encoded
+    ensures { λ r. ⌜ (r ≡ written (recordOf kind id slots count) (now (source .entry)) (now (rows .entry)) (now (body .entry))
+        (now (out .entry)) .answer)
+        × (now (out .exit) ≡ written (recordOf kind id slots count) (now (source .entry)) (now (rows .entry)) (now (body .entry))
+        (now (out .entry)) .output) ⌝ }
+{
+    write_values(kind, id, &slots, count, source, rows, body, out)
 }

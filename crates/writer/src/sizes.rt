@@ -1,163 +1,220 @@
-// How many bytes a message takes, by the lengths only.
+// How many bytes a field takes, by the lengths alone. A tag has one byte.
 use crate::entry::MapEntry;
 use crate::entry::entry_at;
-use records::Content;
-use schema::INIT;
-use schema::Item;
-use schema::MAX_FIELDS;
-use schema::REQUEST_META;
-use schema::RESPONSE_META;
-use schema::item_at;
+use schema::Kind;
 ghost use mathlib.Core.Path.{_≡_};
-ghost use Prim.Native.Nat.{_+_, _≤_, _<_};
-ghost use lib.ListN.{length, getD};
-ghost use Rattle.wire_write.specs.Writing.{putTag};
+ghost use Prim.Native.Nat.{_+_, _≤_};
+ghost use lib.ListN.{length};
+ghost use Rattle.wire_write.specs.Writing.{putVarint};
 ghost use Rattle.decoder.specs.Rows.{rowsIn};
-ghost use Rattle.writer.specs.Encoding.{wide, putNumber};
-ghost use Rattle.schema.specs.Items.{itemsOf, Placed};
-ghost use Rattle.writer.specs.Items.{integerOf, rowOf, bytesSize, entrySize, rowsSize, sizeIf, itemSize, itemsSize};
-ghost use Rattle.writer.specs.Items.{initSizes, sizesOf, mostRow, mostItem, mostFields, mostMessage, Lent};
+ghost use Rattle.writer.specs.Straight.{Lent, mostRow, mostField, mostMessage};
+ghost use Rattle.schema.specs.Schema.{uint32, int32, request, response, close, feedback, requestMeta, responseMeta, init};
+ghost use Rattle.schema.specs.Kinds.{schemaOf};
+ghost use Rattle.writer.specs.Encoding.{wide};
+ghost use Rattle.writer.specs.Straight.{tagged, numberSize, sizeIf, rowsSum, rowSize, rowOf, sizeBy, firstSize, namesSize, lastSize};
+ghost use Rattle.writer.specs.Straight.{statusSize, contentSize, streamSize};
 
-// Of the whole message, and of what is inside the two parts of Init.
-pub(crate) struct Sizes {
-    pub message: usize,
-    pub request_meta: usize,
-    pub response_meta: usize,
-}
-
-// What is written of a number: "A negative int32 is written in ten bytes".
-pub(crate) fn widened(value: u32, signed: bool) -> u64
-    ensures { λ r. ⌜ r ≡ wide (integerOf signed) value ⌝ }
+// The length of a varint: nearly always 1 or 2.
+fn length_of(v: u64) -> usize
+    ensures { λ r. ⌜ (r ≡ length (putVarint v)) × (r ≤ 10) ⌝ }
 {
-    if signed {
-        wire_write::sign_extend(wire_read::low_i32(value as u64))
-    } else {
-        value as u64
+    if v < 128 {
+        return 1;
     }
-}
-
-fn tag_size(number: u32, wire_type: u32) -> usize
-    ensures { λ r. ⌜ (r ≡ length (putTag number «wire_type»)) × (r ≤ 10) ⌝ }
-{
-    wire_write::varint_len((number as u64) * 8 + (wire_type as u64))
-}
-
-fn number_size(number: u32, value: u32, signed: bool) -> usize
-    ensures { λ r. ⌜ (r ≡ length (putNumber (integerOf signed) number value)) × (r ≤ mostItem) ⌝ }
-{
-    if value == 0 {
-        return 0;
+    if v < 16384 {
+        return 2;
     }
-    tag_size(number, 0) + wire_write::varint_len(widened(value, signed))
+    wire_write::varint_len(v)
+}
+
+// What an int32 is written as, with no i32 on the way: its two's complement in 64 bits.
+pub(crate) fn extended(v: u32) -> u64
+    ensures { λ r. ⌜ r ≡ wide int32 v ⌝ }
+{
+    if v < 2147483648 {
+        return v as u64;
+    }
+    (v as u64) + 18446744069414584320
 }
 
 // A field of `size` bytes.
-pub(crate) fn bytes_size(number: u32, size: usize) -> usize
-    requires { ⌜ size ≤ mostMessage ⌝ }
-    ensures { λ r. ⌜ (r ≡ bytesSize number size) × (r ≤ size + 20) ⌝ }
+fn bytes_size(size: u32) -> usize
+    ensures { λ r. ⌜ (r ≡ tagged size) × (r ≤ size + 11) ⌝ }
 {
-    tag_size(number, 2) + wire_write::varint_len(size as u64) + size
-}
-
-// A field of bytes that is left out where the mark is 0.
-fn size_if(mark: u32, number: u32, size: usize) -> usize
-    requires { ⌜ size ≤ mostMessage ⌝ }
-    ensures { λ r. ⌜ (r ≡ sizeIf mark number size) × (r ≤ size + 20) ⌝ }
-{
-    if mark == 0 {
-        return 0;
-    }
-    bytes_size(number, size)
-}
-
-// A field of bytes that is left out where it is empty.
-fn some_size(number: u32, size: u32) -> usize
-    ensures { λ r. ⌜ (r ≡ sizeIf size number size) × (r ≤ mostItem) ⌝ }
-{
-    size_if(size, number, size as usize)
+    1 + length_of(size as u64) + (size as usize)
 }
 
 // The inside of a map entry.
 pub(crate) fn entry_size(e: MapEntry) -> usize
-    ensures { λ r. ⌜ (r ≡ entrySize (rowOf e)) × (r + 20 ≤ mostRow) ⌝ }
+    ensures { λ r. ⌜ (r ≡ tagged (e .«key_size») + tagged (e .«value_size»)) × (r + 20 ≤ mostRow) ⌝ }
 {
-    bytes_size(1, e.key_size as usize) + bytes_size(2, e.value_size as usize)
+    bytes_size(e.key_size) + bytes_size(e.value_size)
 }
 
-fn rows_size(number: u32, count: usize, rows: &[u32]) -> usize
+// A uint32, left out where it is 0.
+fn number_size(v: u32) -> usize
+    ensures { λ r. ⌜ (r ≡ numberSize uint32 v) × (r ≤ 11) ⌝ }
+{
+    if v == 0 {
+        return 0;
+    }
+    1 + length_of(v as u64)
+}
+
+// An int32, left out where it is 0.
+fn signed_size(v: u32) -> usize
+    ensures { λ r. ⌜ (r ≡ numberSize int32 v) × (r ≤ 11) ⌝ }
+{
+    if v == 0 {
+        return 0;
+    }
+    1 + length_of(extended(v))
+}
+
+// A field of bytes, left out where it is empty.
+fn some_size(size: u32) -> usize
+    ensures { λ r. ⌜ (r ≡ sizeIf size size) × (r ≤ 4294967306) ⌝ }
+{
+    if size == 0 {
+        return 0;
+    }
+    bytes_size(size)
+}
+
+// A part of Init of which `size` bytes are inside, left out where the mark is 0.
+fn part_size(mark: u32, size: usize) -> usize
+    requires { ⌜ size ≤ mostMessage ⌝ }
+    ensures { λ r. ⌜ (r ≡ sizeIf mark size) × (r ≤ size + 11) ⌝ }
+{
+    if mark == 0 {
+        return 0;
+    }
+    1 + length_of(size as u64) + size
+}
+
+// A row of the map.
+fn row_size(e: MapEntry) -> usize
+    ensures { λ r. ⌜ (r ≡ rowSize (rowOf e)) × (r ≤ mostRow) ⌝ }
+{
+    let inside = entry_size(e);
+    1 + length_of(inside as u64) + inside
+}
+
+fn rows_size(count: usize, rows: &[u32]) -> usize
     requires { ⌜ Lent count (now rows) ⌝ }
-    ensures { λ r. ⌜ (r ≡ rowsSize number (rowsIn count (now (rows .entry)))) × (r ≤ mostItem) ⌝ }
+    ensures { λ r. ⌜ (r ≡ rowsSum rowSize (rowsIn count (now (rows .entry)))) × (r ≤ mostField) ⌝ }
 {
     let mut size: usize = 0;
     let mut i: usize = 0;
     while i < count {
-        size += bytes_size(number, entry_size(entry_at(rows, i)));
+        size += row_size(entry_at(rows, i));
         i += 1;
     }
     size
 }
 
-// The value of a slot.
-pub(crate) fn value_at(c: Content, slot: usize) -> u32
-    requires { ⌜ slot < 16 ⌝ }
-    ensures { λ r. ⌜ r ≡ getD (c .values) slot 0 ⌝ }
+// ---- the kinds
+
+fn first_size(n: &[u32; 16]) -> usize
+    ensures { λ r. ⌜ (r ≡ firstSize (now (n .entry))) × (r ≤ 44) ⌝ }
 {
-    c.values[slot]
+    number_size(n[0]) + number_size(n[1]) + number_size(n[2]) + number_size(n[3])
 }
 
-fn item_size(item: Item, c: Content, rows: &[u32]) -> usize
-    requires { ⌜ Placed item × Lent (c .rows) (now rows) ⌝ }
-    ensures { λ r. ⌜ (r ≡ itemSize (rowsIn (c .rows) (now (rows .entry))) (c .values) item) × (r ≤ mostItem) ⌝ }
+fn names_size(n: &[u32; 16]) -> usize
+    ensures { λ r. ⌜ (r ≡ namesSize (now (n .entry))) × (r ≤ mostRow) ⌝ }
 {
-    match item {
-        Item::Unsigned(number, slot) => number_size(number, value_at(c, slot), false),
-        Item::Signed(number, slot) => number_size(number, value_at(c, slot), true),
-        Item::Bytes(number, slot) => some_size(number, value_at(c, slot + 1)),
-        Item::Map(number) => rows_size(number, c.rows as usize, rows),
-        Item::End => 0,
-    }
+    some_size(n[5]) + some_size(n[7]) + some_size(n[9])
 }
 
-// The fields of a schema number, without the parts of Init.
-fn fields_size(schema: u32, c: Content, rows: &[u32]) -> usize
-    requires { ⌜ Lent (c .rows) (now rows) ⌝ }
-    ensures { λ r. ⌜ (r ≡ itemsSize (rowsIn (c .rows) (now (rows .entry))) (c .values) (itemsOf schema)) × (r ≤ mostFields) ⌝ }
+fn last_size(n: &[u32; 16]) -> usize
+    ensures { λ r. ⌜ (r ≡ lastSize (now (n .entry))) × (r ≤ 33) ⌝ }
 {
-    let mut size: usize = 0;
-    let mut k: usize = 0;
-    while k < MAX_FIELDS {
-        size += item_size(item_at(schema, k), c, rows);
-        k += 1;
-    }
-    size
+    number_size(n[11]) + number_size(n[12]) + number_size(n[13])
 }
 
-fn init_sizes(c: Content, rows: &[u32]) -> Sizes
-    requires { ⌜ Lent (c .rows) (now rows) ⌝ }
-    ensures { λ r. ⌜ (r ≡ initSizes (rowsIn (c .rows) (now (rows .entry))) (c .values)) × (r .message ≤ mostMessage) ⌝ }
+fn request_size(n: &[u32; 16], count: usize, rows: &[u32]) -> usize
+    requires { ⌜ Lent count (now rows) ⌝ }
+    ensures { λ r. ⌜ (r ≡ sizeBy (rowsIn count (now (rows .entry))) request 0 (now (n .entry))) × (r ≤ mostMessage) ⌝ }
 {
-    let request_meta = fields_size(REQUEST_META, c, rows);
-    let response_meta = fields_size(RESPONSE_META, c, rows);
-    let first = size_if(value_at(c, 0), 1, request_meta);
-    let second = size_if(value_at(c, 8), 2, response_meta);
-    Sizes {
-        message: first + (second + fields_size(INIT, c, rows)),
-        request_meta,
-        response_meta,
-    }
+    first_size(n) + names_size(n) + number_size(n[10]) + rows_size(count, rows) + last_size(n)
 }
 
-// The message of a schema number.
-pub(crate) fn message_sizes(schema: u32, c: Content, rows: &[u32]) -> Sizes
-    requires { ⌜ Lent (c .rows) (now rows) ⌝ }
-    ensures { λ r. ⌜ (r ≡ sizesOf (rowsIn (c .rows) (now (rows .entry))) (c .values) schema) × (r .message ≤ mostMessage) ⌝ }
+fn status_size(n: &[u32; 16]) -> usize
+    ensures { λ r. ⌜ (r ≡ statusSize (now (n .entry))) × (r ≤ 55) ⌝ }
 {
-    if schema == INIT {
-        return init_sizes(c, rows);
-    }
-    Sizes {
-        message: fields_size(schema, c, rows),
-        request_meta: 0,
-        response_meta: 0,
+    number_size(n[0])
+        + number_size(n[1])
+        + number_size(n[2])
+        + signed_size(n[3])
+        + signed_size(n[4])
+}
+
+fn content_size(n: &[u32; 16]) -> usize
+    ensures { λ r. ⌜ (r ≡ contentSize (now (n .entry))) × (r ≤ 33) ⌝ }
+{
+    number_size(n[8]) + number_size(n[9]) + number_size(n[10])
+}
+
+fn response_size(n: &[u32; 16], count: usize, rows: &[u32]) -> usize
+    requires { ⌜ Lent count (now rows) ⌝ }
+    ensures { λ r. ⌜ (r ≡ sizeBy (rowsIn count (now (rows .entry))) response 0 (now (n .entry))) × (r ≤ mostMessage) ⌝ }
+{
+    status_size(n) + some_size(n[6]) + number_size(n[7]) + rows_size(count, rows) + content_size(n)
+}
+
+fn close_size(n: &[u32; 16], count: usize, rows: &[u32]) -> usize
+    requires { ⌜ Lent count (now rows) ⌝ }
+    ensures { λ r. ⌜ (r ≡ sizeBy (rowsIn count (now (rows .entry))) close 0 (now (n .entry))) × (r ≤ mostMessage) ⌝ }
+{
+    signed_size(n[0])
+        + signed_size(n[1])
+        + some_size(n[3])
+        + number_size(n[4])
+        + rows_size(count, rows)
+        + signed_size(n[5])
+}
+
+// The inside of the two parts of Init.
+pub(crate) fn request_meta_size(n: &[u32; 16], count: usize, rows: &[u32]) -> usize
+    requires { ⌜ Lent count (now rows) ⌝ }
+    ensures { λ r. ⌜ (r ≡ sizeBy (rowsIn count (now (rows .entry))) requestMeta 1 (now (n .entry))) × (r ≤ mostField + mostRow) ⌝ }
+{
+    some_size(n[2]) + some_size(n[4]) + some_size(n[6]) + number_size(n[7]) + rows_size(count, rows)
+}
+
+pub(crate) fn response_meta_size(n: &[u32; 16], count: usize, rows: &[u32]) -> usize
+    ensures { λ r. ⌜ (r ≡ sizeBy (rowsIn count (now (rows .entry))) responseMeta 9 (now (n .entry))) × (r ≤ mostRow) ⌝ }
+{
+    signed_size(n[9]) + some_size(n[11])
+}
+
+fn stream_size(n: &[u32; 16]) -> usize
+    ensures { λ r. ⌜ (r ≡ streamSize (now (n .entry))) × (r ≤ 33) ⌝ }
+{
+    number_size(n[12]) + number_size(n[13]) + number_size(n[14])
+}
+
+fn init_size(n: &[u32; 16], count: usize, rows: &[u32]) -> usize
+    requires { ⌜ Lent count (now rows) ⌝ }
+    ensures { λ r. ⌜ (r ≡ sizeBy (rowsIn count (now (rows .entry))) init 0 (now (n .entry))) × (r ≤ mostMessage) ⌝ }
+{
+    part_size(n[0], request_meta_size(n, count, rows))
+        + part_size(n[8], response_meta_size(n, count, rows))
+        + stream_size(n)
+}
+
+// The message of a kind.
+pub(crate) fn message_size(kind: Kind, n: &[u32; 16], count: usize, rows: &[u32]) -> usize
+    requires { ⌜ Lent count (now rows) ⌝ }
+    ensures { λ r. ⌜ (r ≡ sizeBy (rowsIn count (now (rows .entry))) (schemaOf kind) 0 (now (n .entry))) × (r ≤ mostMessage) ⌝ }
+{
+    match kind {
+        Kind::Request => request_size(n, count, rows),
+        Kind::Response => response_size(n, count, rows),
+        Kind::Init => init_size(n, count, rows),
+        Kind::Data => 0,
+        Kind::Feedback => number_size(n[0]),
+        Kind::Close => close_size(n, count, rows),
     }
 }

@@ -1,76 +1,35 @@
--- The grounds as loops find them. Of a loop that tests one thing after the other: the answer for what is left is that for all (`left`), and
--- a test that fails is the answer.
+-- The grounds as the code finds them. Loops go from the last row to the first: what is known of the rows from i on and of row i - 1 is
+-- known of the rows from i - 1 on.
 use Prim.Native.Nat.{ℕ, zero, suc, _+_, _*_, _-_, _<_, _≤_}
 use mathlib.Core.Path.{_≡_, refl, sym, ap, ap₂, _∙_}
-use mathlib.Core.Bool.{Bool, true, false, not, cond, _&&_, _||_, and-true}
+use mathlib.Core.Bool.{Bool, true, false, not, cond, _&&_, _||_, and-true, and-assoc}
 use mathlib.Core.List.{List, [], _∷_}
 use native.Mathlib.Omega.{arith}
 use native.Mathlib.Numerals.{add-one}
 use borrow.Author.Tests.{leb-true, eq-eqb, ne-eqb, eqb-true, eqb-false}
 use lib.Dec.{leb, eqb}
 use lib.ListN.{length, drop, getD, drop-of-length-le, length-drop}
+use Rattle.laws.specs.Chains.{unless}
 use Rattle.laws.proofs.Booleans.{both}
 use Rattle.laws.proofs.Tests.{fails, holds}
-use Rattle.schema.specs.Schema.{done, request, response, init, feedback, close}
-use Rattle.schema.specs.Schema.{requestMeta, responseMeta, width, schemaAt, partSchema, slotAt}
+use Rattle.schema.specs.declared.Kind.{Kind}
 use Rattle.decoder.specs.Rows.{Row, rowsIn, rowsLent}
 use Rattle.decoder.specs.Fields.{partOf, sameBytes, keyPlace}
-use Rattle.schema.specs.Kinds.{schemaOf}
-use Rattle.schema.specs.declared.Kind.{Kind}
-use Rattle.schema.specs.declared.Kind.the-variants as kinds
 use Rattle.decoder.proofs.RowLaws.{length-rowsIn, all-lent, rowAt, rows-from}
 use Rattle.decoder.proofs.PartEnds.{part-rest}
 use Rattle.wire_read.specs.Part.{part}
-use Rattle.writer_checks.specs.Grounds.{maxRows, hasMap, rowsOk, spansWithin, rowsWithin, noKey, keysDiffer, allZero, absentOk}
-use Rattle.schema.proofs.ItemLaws.{few-items}
-use Rattle.schema.specs.Items.{items, noItem, Placed, itemsOf}
-use Rattle.writer_checks.specs.ItemGrounds.{itemWithin, itemsWithin, itemZero, itemsZero}
-use Rattle.schema.specs.declared.Item.{Item}
+use Rattle.writer_checks.specs.Grounds.{maxRows, hasMap, rowsOk, rowsWithin, noKey, keysDiffer}
+use Rattle.writer_checks.specs.Marks.{noneAfter}
 
--- ---- one test `t` of what is left, and `later` after it
-module _ {all here : Bool} (t later : Bool) (left : all ≡ here) (is-here : here ≡ t && later) where
-  pub stops : t ≡ false → false ≡ all
-  stops e = sym (left ∙ is-here ∙ ap (λ (x : Bool). x && later) e)
-
-  pub goes : t ≡ true → all ≡ later
-  goes e = left ∙ is-here ∙ ap (λ (x : Bool). x && later) e
-
--- ---- the fields of a message
--- a test of each field, which holds where there is no more
-pub record Each (test : Item → Bool) (all : List Item → Bool) : Type 0 where
-  pub at-end : test noItem ≡ true
-  pub none : all [] ≡ true
-  pub some : (x : Item) (xs : List Item) → all (x ∷ xs) ≡ test x && all xs
-
-pub each-within : (size : ℕ) (slots : List ℕ) → Each (itemWithin size slots) (itemsWithin size slots)
-unfolding itemWithin itemsWithin
-each-within size slots = record { at-end = refl; none = refl; some = λ x xs. refl }
-
-pub each-zero : (rows : List Row) (slots : List ℕ) → Each (itemZero rows slots) (itemsZero rows slots)
-unfolding itemZero itemsZero
-each-zero rows slots = record { at-end = refl; none = refl; some = λ x xs. refl }
-
-module _ {test : Item → Bool} {all : List Item → Bool} (each : Each test all) where
-  item-at : (xs : List Item) (k : ℕ) → all (drop k xs) ≡ test (getD xs k noItem) && all (drop (suc k) xs)
-  item-at [] zero = rw (each .at-end)
-  item-at [] (suc k) = rw (each .at-end)
-  item-at (x ∷ xs) zero = each .some x xs
-  item-at (x ∷ xs) (suc k) = item-at xs k
-
-  module _ (schema k : ℕ) (left : all (itemsOf schema) ≡ all (drop k (itemsOf schema))) where
-    pub fields-end : 12 ≤ k → true ≡ all (itemsOf schema)
-    fields-end h =
-        let over : length (itemsOf schema) ≤ k = omega (arith, few-items schema) in
-        sym (left ∙ ap all (drop-of-length-le (itemsOf schema) over) ∙ each .none)
-
-    module _ {x : Item} {r : Bool} (is-x : (x ≡ getD (itemsOf schema) k noItem) × Placed x) (is-r : r ≡ test x) where
-      pub fields-stop : not r ≡ true → false ≡ all (itemsOf schema)
-      fields-stop e = stops _ _ left (item-at (itemsOf schema) k) (fails (is-r ∙ ap test (is-x .0)) e)
-
-      pub fields-next : not r ≡ false → all (itemsOf schema) ≡ all (drop (k + 1) (itemsOf schema))
-      fields-next e = rw (add-one k) (goes _ _ left (item-at (itemsOf schema) k) (holds (is-r ∙ ap test (is-x .0)) e))
+-- three fields, one after the other, of a definition that goes along a schema
+pub three : {a b c x y z : Bool} → a ≡ x → b ≡ y → c ≡ z → a && b && c ≡ x && (y && (z && true))
+three {x = x} {y = y} {z = z} e f g = rw (and-true, e, f, g) (and-assoc x y z)
 
 -- ---- the rows
+-- key and value of row i
+abbrev rowWithin : (size : ℕ) (l : List ℕ) (i : ℕ) → Bool
+rowWithin size l i = leb (getD l (i * 4) 0 + getD l (i * 4 + 1) 0) size && leb (getD l (i * 4 + 2) 0 + getD l (i * 4 + 3) 0) size
+
 rows-drop : (size : ℕ) (rs : List Row) (i : ℕ) → rowsWithin size rs ≡ true → rowsWithin size (drop i rs) ≡ true
 unfolding rowsWithin
 rows-drop size rs zero e = e
@@ -78,23 +37,18 @@ rows-drop size [] (suc i) e = refl
 rows-drop size (r ∷ rs) (suc i) e =
     rows-drop size rs i (both (leb (r .key + r .keySize) size && leb (r .value + r .valueSize) size) (rowsWithin size rs) e .1)
 
-module _ (n : ℕ) (l : List ℕ) (i : ℕ) where
+module _ (n : ℕ) (l : List ℕ) where
   -- nothing is left
-  pub rows-end : (all : List Row → Bool) {whole : Bool} → all [] ≡ true → whole ≡ all (drop i (rowsIn n l)) → n ≤ i → true ≡ whole
-  rows-end all none left h =
-      let over : length (rowsIn n l) ≤ i = omega (arith, length-rowsIn n l) in
-      sym (left ∙ ap all (drop-of-length-le (rowsIn n l) over) ∙ none)
+  pub none-left : drop n (rowsIn n l) ≡ []
+  none-left = drop-of-length-le (rowsIn n l) {i = n} (omega (arith, length-rowsIn n l))
 
-  module _ (some : i < n) where
-    pub within-at : (size : ℕ) → rowsWithin size (drop i (rowsIn n l))
-        ≡ leb (getD l (i * 4) 0 + getD l (i * 4 + 1) 0) size && leb (getD l (i * 4 + 2) 0 + getD l (i * 4 + 3) 0) size
-        && rowsWithin size (drop (i + 1) (rowsIn n l))
+  module _ (i : ℕ) (some : i < n) where
+    within-at : (size : ℕ) → rowsWithin size (drop i (rowsIn n l)) ≡ rowWithin size l i && rowsWithin size (drop (i + 1) (rowsIn n l))
     unfolding rowsWithin
     within-at size = rw (rowAt n l i some, add-one i)
 
-    pub differ-at : (source : List ℕ) → keysDiffer source (drop i (rowsIn n l))
-        ≡ noKey source (partOf source (getD l (i * 4) 0) (getD l (i * 4 + 1) 0)) (drop (i + 1) (rowsIn n l)) && keysDiffer source
-        (drop (i + 1) (rowsIn n l))
+    differ-at : (source : List ℕ) → keysDiffer source (drop i (rowsIn n l))
+        ≡ noneAfter source l n i && keysDiffer source (drop (i + 1) (rowsIn n l))
     unfolding keysDiffer
     differ-at source = rw (rowAt n l i some, add-one i)
 
@@ -104,10 +58,30 @@ module _ (n : ℕ) (l : List ℕ) (i : ℕ) where
     row-in size e =
         let key = leb (getD l (i * 4) 0 + getD l (i * 4 + 1) 0) size in
         let value = leb (getD l (i * 4 + 2) 0 + getD l (i * 4 + 3) 0) size in
-        let a = both (key && value) (rowsWithin size (drop (i + 1) (rowsIn n l)))
-        (sym (within-at size) ∙ rows-drop size (rowsIn n l) i e) in
+        let a = both (key && value) _ (sym (within-at size) ∙ rows-drop size (rowsIn n l) i e) in
         let b = both key value (a .0) in
         (leb-true _ _ (b .0), leb-true _ _ (b .1))
+
+  -- one more row than those from i on
+  module _ (i : ℕ) (some : 0 < i) (most : i ≤ n) {r rest : Bool} where
+    pub within-more : (size : ℕ) → r ≡ rowWithin size l (i - 1) → rest ≡ rowsWithin size (drop i (rowsIn n l))
+        → r && rest ≡ rowsWithin size (drop (i - 1) (rowsIn n l))
+    within-more size e f =
+        let same : i - 1 + 1 ≡ i = omega arith in
+        ap₂ _&&_ e f ∙ sym (rw same at (within-at (i - 1) (omega arith) size))
+
+    pub differ-more : (source : List ℕ) → r ≡ noneAfter source l n (i - 1)
+        → rest ≡ keysDiffer source (drop i (rowsIn n l)) → r && rest ≡ keysDiffer source (drop (i - 1) (rowsIn n l))
+    differ-more source e f =
+        let same : i - 1 + 1 ≡ i = omega arith in
+        ap₂ _&&_ (rw same at e) f ∙ sym (rw same at (differ-at (i - 1) (omega arith) source))
+
+-- one key differs from none
+pub few-differ : (source : List ℕ) (n : ℕ) (l : List ℕ) → n < 2 → true ≡ keysDiffer source (rowsIn n l)
+unfolding rowsIn keysDiffer noKey
+few-differ source zero l h = refl
+few-differ source (suc zero) l h = refl
+few-differ source (suc (suc n)) l h = let z : ⊥ = omega arith in absurd z
 
 -- ---- a key among the rows
 suc-eqb : (a b : ℕ) → eqb (suc a) (suc b) ≡ eqb a b
@@ -143,33 +117,14 @@ none-after count i source key numbers place some lent e =
     ∙ omega (arith, length-rowsIn count numbers) in
     sym (no-key-place source key (drop (i + 1) (rowsIn count numbers)) ∙ ap₂ eqb (sym (e ∙ ap (keyPlace source key) rows)) size)
 
+-- ---- the chain of grounds
 pub rows-lent : (kind : Kind) (count lent : ℕ) → rowsOk kind count lent ≡ true → count * 4 ≤ lent
 unfolding rowsOk
 rows-lent kind count lent e = leb-true _ _ (both (leb count maxRows && (hasMap kind || eqb count 0)) (leb (count * 4) lent) e .1)
 
--- ---- Init: its two parts, and then its own fields
-pub within-init : (size : ℕ) (slots : List ℕ)
-    → spansWithin size init 0 slots
-    ≡ itemsWithin size slots (itemsOf 6) && (itemsWithin size slots (itemsOf 7) && itemsWithin size slots (itemsOf 2))
-unfolding spansWithin itemsWithin itemWithin items partSchema schemaAt slotAt width
-within-init size slots = refl
+-- after `if !test(..)`: a ground that holds is the answer, and one that does not is passed
+pub given : (m ok : Bool) (code later : ℕ) → m ≡ ok → not m ≡ true → code ≡ unless ok code later
+given m ok code later e t = rw (fails e t)
 
--- a part is marked present, or has nothing in it
-abbrev pub partOk : List Row → (mark schema : ℕ) → (slots : List ℕ) → Bool
-partOk rows mark schema slots = not (eqb mark 0) || itemsZero rows slots (itemsOf schema)
-
-pub absent-init : (rows : List Row) (slots : List ℕ)
-    → absentOk rows init 0 slots ≡ partOk rows (getD slots 0 0) 6 slots && partOk rows (getD slots 8 0) 7 slots
-unfolding absentOk allZero itemsZero itemZero items partSchema schemaAt slotAt width
-absent-init rows slots = ap (λ (b : Bool). partOk rows (getD slots 0 0) 6 slots && b) (and-true (partOk rows (getD slots 8 0) 7 slots))
-
--- of the rows, only their number matters
-pub absent-count : (n : ℕ) (l : List ℕ) (kind : Kind) (slots : List ℕ)
-    → absentOk (rowsIn n []) (schemaOf kind) 0 slots ≡ absentOk (rowsIn n l) (schemaOf kind) 0 slots
-unfolding absentOk allZero width
-absent-count n l kinds.Request slots = refl
-absent-count n l kinds.Response slots = refl
-absent-count n l kinds.Init slots = rw (length-rowsIn n [], length-rowsIn n l)
-absent-count n l kinds.Data slots = refl
-absent-count n l kinds.Feedback slots = refl
-absent-count n l kinds.Close slots = refl
+pub passed : (m ok : Bool) (code later r : ℕ) → m ≡ ok → not m ≡ false → r ≡ later → r ≡ unless ok code later
+passed m ok code later r e t z = rw (holds e t) z

@@ -20,18 +20,24 @@ use std::sync::OnceLock;
 pub static FAULT: OnceLock<String> = OnceLock::new();
 
 /// Each fault, and a family whose inputs show it.
-pub const FAULTS: [(&str, &str); 24] = [
+pub const FAULTS: [(&str, &str); 30] = [
     ("header-size-of-total", "header"),
     ("id-of-16-bits", "header"),
     ("taken-one-less", "every two cuts"),
     ("held-forgotten", "every split"),
     ("byte-behind-the-frame", "every split"),
+    ("last-byte-of-two-parts", "ends of frames"),
+    ("next-frame-taken", "several frames"),
     ("timeout-of-seven-bits", "short messages"),
     ("close-read-as-feedback", "short messages"),
     ("last-number-kept", "messages"),
     ("first-value-kept", "messages"),
     ("written-past-the-frame", "records"),
     ("minus-one-in-five-bytes", "records"),
+    ("written-past-at-a-bound", "outputs"),
+    ("most-rows-refused", "rows"),
+    ("keys-by-last-bytes", "keys"),
+    ("far-keys-not-compared", "keys"),
     ("due-in-32-bits", "queue calls"),
     ("zero-as-it-was", "queues"),
     ("retired-number-of-check", "header"),
@@ -111,6 +117,12 @@ pub unsafe fn trpc_deframe(
     if fault("byte-behind-the-frame") && answer.size > 17 && answer.size < buffer_len {
         buffer[answer.size] ^= 0xFF;
     }
+    if fault("last-byte-of-two-parts") && answer.size == 8_192 && state.held == 17 {
+        buffer[answer.size - 1] ^= 0xFF;
+    }
+    if fault("next-frame-taken") && answer.size == 4_097 && answer.taken + header::SIZE == piece_len {
+        answer.taken = piece_len;
+    }
     if fault("retired-number-in-state") && answer.error > 2 {
         answer.next.error = RETIRED[0];
     }
@@ -152,10 +164,32 @@ fn read(kind: Kind, frame: &[u8], rows: &mut [u32], record: &mut Numbers) -> u32
     returned(code, "retired-number-of-read")
 }
 
+/// Whether this is true of the keys of two rows that are at least so far apart.
+fn two_keys(record: &Numbers, source: &[u8], rows: &[u32], apart: usize, is: impl Fn(&[u8], &[u8]) -> bool) -> bool {
+    let key = |row: &[u32]| source.get(row[0] as usize..row[0] as usize + row[1] as usize).unwrap_or(&[]);
+    let keys: Vec<&[u8]> = rows.chunks_exact(4).take(record[1] as usize).map(key).collect();
+    (apart..keys.len()).any(|later| keys[..=later - apart].iter().any(|earlier| is(earlier, keys[later])))
+}
+
 fn write(kind: Kind, record: &Numbers, source: &[u8], rows: &[u32], body: &[u8], out: &mut [u8]) -> Written {
     let mut answer = interface::write(kind, record, source, rows, body, out);
     if fault("written-past-the-frame") && answer.size > 40 && answer.size < out.len() {
         out[answer.size] ^= 0xFF;
+    }
+    if fault("written-past-at-a-bound") && kind == Kind::Request && answer.size > 0 && out.len() == answer.size + 66 {
+        out[answer.size] ^= 0xFF;
+    }
+    if fault("most-rows-refused") && kind == Kind::Close && answer.size > 0 && record[1] == 64 {
+        answer = Written { error: 19, size: 0 };
+    }
+    let one_byte_apart =
+        |one: &[u8], other: &[u8]| one.len() == other.len() && one.len() > 15 && one[1..] == other[1..];
+    if fault("keys-by-last-bytes") && answer.error == 0 && two_keys(record, source, rows, 1, one_byte_apart) {
+        answer = Written { error: 18, size: 0 };
+    }
+    let equal = |one: &[u8], other: &[u8]| one == other;
+    if fault("far-keys-not-compared") && answer.error == 18 && two_keys(record, source, rows, 48, equal) {
+        answer.error = 27;
     }
     if fault("minus-one-in-five-bytes") && kind == Kind::Response && answer.size > 0 && record[12] > i32::MAX as u32 {
         answer.size -= 5;

@@ -10,17 +10,8 @@ unfolding recordOf
 record-of-spec =
     tie.close
     (tie.spec
-    (λ c. search needs)
-    (λ c κs. search needs)
-    (λ c. search needs)
-    (λ c κs. search needs)
-    (λ c. search needs)
-    (λ c κs. search needs)
-    (λ c. search needs)
-    (λ c. search needs)
-    (λ c. search needs)
-    (λ c. search needs)
-    (λ c κs. search needs)
+    (λ c. search needs) (λ c κs. search needs) (λ c. search needs) (λ c κs. search needs) (λ c. search needs) (λ c κs. search needs)
+    (λ c. search needs) (λ c. search needs) (λ c. search needs) (λ c. search needs) (λ c κs. search needs)
     (λ c. c .request-of .ensures ∙ rw (c .before .enum-told .given .1))
     (λ c. c .response-of .ensures ∙ rw (c .before .enum-told2 .given .1))
     (λ c. c .init-of .ensures ∙ rw (c .before .enum-told3 .given .1))

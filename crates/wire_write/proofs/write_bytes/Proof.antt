@@ -8,12 +8,13 @@ use lib.ListN.{length, length-append}
 use lib.Dec.{leb}
 use native.Mathlib.Omega.{arith}
 use borrow.Author.Needs.{needs}
-use Rattle.wire_write.specs.Writing.{putVarint, putTag, putBytes, goodTag, fits}
-use Rattle.wire_write.specs.Writing.{firstGround, stored, writtenAt, tagStored, tagWritten}
+use Rattle.copying.specs.Stored.{fits, stored}
+use Rattle.copying.proofs.Outputs.{stored-then, length-stored}
+use Rattle.wire_write.specs.Writing.{putVarint, putTag, putBytes, goodTag, firstGround, writtenAt, tagStored, tagWritten}
 use Rattle.wire_write.specs.declared.Written.{Written}
 use Rattle.wire_write.specs.declared.Written.the-variants.{Refused}
 use Rattle.wire_write.proofs.Encoding.{varint-bounds}
-use Rattle.wire_write.proofs.Outputs.{stored-then, length-stored, written, tag-refused, tag-fits, tag-written, tag-stored}
+use Rattle.wire_write.proofs.Outputs.{written, tag-refused, tag-fits, tag-written, tag-stored}
 use Rattle.wire_write.proofs.write_bytes.Statement.{statement}
 use Rattle.wire_write.proofs.write_bytes.Tie as tie
 

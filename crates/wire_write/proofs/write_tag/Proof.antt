@@ -6,7 +6,8 @@ use mathlib.Core.List.{List}
 use lib.ListN.{length}
 use lib.Dec.{leb}
 use borrow.Author.Needs.{needs}
-use Rattle.wire_write.specs.Writing.{putTag, goodTag, fits, firstGround, stored, tagStored, tagWritten}
+use Rattle.copying.specs.Stored.{fits, stored}
+use Rattle.wire_write.specs.Writing.{putTag, goodTag, firstGround, tagStored, tagWritten}
 use Rattle.wire_write.specs.declared.Written.the-variants.{Next, Refused}
 use Rattle.wire_write.proofs.Outputs.{written, tag-refused, tag-fits, tag-written, tag-stored}
 use Rattle.wire_write.proofs.write_tag.Statement.{statement}

@@ -9,7 +9,8 @@ use native.Mathlib.Omega.{arith}
 use borrow.Author.Needs.{needs}
 use borrow.Author.Tests.{leb-true, leb-false}
 use Rattle.refusals.specs.Numbers.{outputShort}
-use Rattle.wire_write.specs.Writing.{putVarint, stored, writtenAt}
+use Rattle.copying.specs.Stored.{stored}
+use Rattle.wire_write.specs.Writing.{putVarint, writtenAt}
 use Rattle.wire_write.specs.declared.Written.the-variants.{Next, Refused}
 use Rattle.wire_write.proofs.Outputs.{written, full}
 use Rattle.wire_write.proofs.write_varint.Statement.{statement}

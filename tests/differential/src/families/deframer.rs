@@ -43,12 +43,12 @@ thread_local! {
 
 /// A stream in pieces of these sizes; what they leave over comes as a last piece. Unary frames are read as `side`.
 #[derive(Clone)]
-struct Stream {
-    bytes: Vec<u8>,
-    pieces: Vec<usize>,
-    side: Kind,
+pub struct Stream {
+    pub bytes: Vec<u8>,
+    pub pieces: Vec<usize>,
+    pub side: Kind,
     /// Whether calls that are refused with 1 and 2 are made between the others.
-    misused: bool,
+    pub misused: bool,
 }
 
 /// A run of calls, while it goes well.
@@ -342,12 +342,12 @@ pub fn streams(family: &mut Family) {
 
 /// One call and one end with any state and any buffer.
 #[derive(Clone)]
-struct Standing {
-    state: State,
+pub struct Standing {
+    pub state: State,
     /// The buffer's length, and the bytes at its start.
-    length: usize,
-    start: Vec<u8>,
-    piece: Vec<u8>,
+    pub length: usize,
+    pub start: Vec<u8>,
+    pub piece: Vec<u8>,
 }
 
 impl Case for Standing {

@@ -1,11 +1,13 @@
 //! The families of inputs.
 
 pub mod deframer;
+pub mod deframer_borders;
 pub mod header;
 pub mod queue;
 pub mod reader;
 pub mod round_trip;
 pub mod writer;
+pub mod writer_borders;
 
 use crate::run::Family;
 
@@ -23,9 +25,15 @@ pub const ALL: &[Entry] = &[
     ("every two cuts", 0, deframer::every_two_cuts),
     ("streams", 40, deframer::streams),
     ("states", 30, deframer::states),
+    ("ends of frames", 0, deframer_borders::ends),
+    ("several frames", 0, deframer_borders::several),
     ("records", 60, writer::records),
     ("grounds", 50, writer::grounds),
     ("largest frames", 5, writer::largest),
+    ("outputs", 0, writer_borders::outputs),
+    ("long frames", 0, writer_borders::long_frames),
+    ("rows", 0, writer_borders::rows),
+    ("keys", 0, writer_borders::keys),
     ("round trips", 35, round_trip::round_trips),
     ("queue calls", 30, queue::calls),
     ("queues", 20, queue::queues),

@@ -116,7 +116,7 @@ impl Writing {
     }
 
     /// The size of its frame, were there no output to be too short.
-    fn size(&self) -> Option<usize> {
+    pub fn size(&self) -> Option<usize> {
         let input = interface::input(self.kind, &self.record, &self.source, &self.rows, &self.body);
         frame(&input).ok().map(|frame| frame.len())
     }
@@ -132,7 +132,7 @@ impl Writing {
         (start as u32, random.between(0, longest) as u32)
     }
 
-    fn put_span(&mut self, place: usize, (start, length): (u32, u32)) {
+    pub fn put_span(&mut self, place: usize, (start, length): (u32, u32)) {
         self.record[place] = start;
         self.record[place + 1] = length;
     }

@@ -1,7 +1,10 @@
 -- What the writer gives of the record that the numbers are.
+use Prim.Native.Nat.{ℕ}
 use mathlib.Core.Path.{ap, _∙_}
+use mathlib.Core.List.{List}
+use lib.ListN.{getD}
 use borrow.Author.Needs.{needs}
-use Rattle.records.specs.declared.Record.{Record}
+use Rattle.records.specs.Records.{recordOf}
 use Rattle.writer.specs.Writing.{Writing, written, errorOf, countOf}
 use Rattle.bekurapi.proofs.kinds.write_as.Statement.{statement}
 use Rattle.bekurapi.proofs.kinds.write_as.Tie as tie
@@ -9,11 +12,12 @@ use Rattle.bekurapi.proofs.kinds.write_as.Tie as tie
 returns : tie.Need-returns
 returns c =
     let at-write = c .before .before .before .before in
-    let at-record = at-write .before .before in
-    let args = at-record .before .before .before .before .before .before .args in
-    let same = ap (λ (x : Record). written x (args .source .now) (args .rows .now) (args .body .now) (args .out .now))
-    (at-record .record-from .ensures) in
-    let wrote = at-write .write .ensures in
+    let at-fields = at-write .before .before in
+    let args = at-fields .before .before .before .before .before .before .args in
+    let numbers = args .«record» .now in
+    let same = ap (λ (x : List ℕ). written (recordOf (args .kind) (getD numbers 0 0) x (getD numbers 1 0)) (args .source .now)
+    (args .rows .now) (args .body .now) (args .out .now)) (at-fields .fields-of .ensures) in
+    let wrote = at-write .write-slots .ensures in
     let answer = wrote .0 ∙ ap (λ (x : Writing). x .answer) same in
     record {
       code-is = c .encoded-error .ensures ∙ ap errorOf answer;
@@ -26,6 +30,8 @@ write-as-spec =
     tie.close
     (tie.spec
     (λ c κs. search needs)
+    (λ c. search needs)
+    (λ c. search needs)
     (λ c κs. search needs)
     (λ c κs. search needs)
     (λ c κs. search needs)

@@ -1,15 +1,16 @@
--- What `copy` leaves of the part, put back into the whole (`put-back`).
+-- There is room, so all of the source is stored.
+use mathlib.Core.Path.{_∙_}
 use borrow.Author.Needs.{needs}
-use Rattle.laws.proofs.Lists.{put-back}
+use Rattle.copying.proofs.Outputs.{stored-all}
 use Rattle.deframer.proofs.fill.put.Statement.{statement}
 use Rattle.deframer.proofs.fill.put.Tie as tie
 
 returns : tie.Need-returns
 returns c =
     let at-copy = c .before .before in
-    let args = at-copy .before .before .before .before .args in
-    put-back (args .buffer .now) (args .source .now) _ (args .held) (at-copy .copy .ensures .1)
+    let start = at-copy .before .before .before .before in
+    let args = start .args in
+    at-copy .copy-to .ensures .1 ∙ stored-all (args .buffer .now) (args .held) (args .source .now) (start .pre)
 
 pub put-spec : {M : Type 1} → statement M
-put-spec =
-    tie.close (tie.spec (λ c. search needs) (λ c. search needs) (λ c. search needs) (λ c κs. search needs) (λ c. search needs) returns)
+put-spec = tie.close (tie.spec (λ c κs. search needs) (λ c. search needs) returns)

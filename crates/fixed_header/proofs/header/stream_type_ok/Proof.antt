@@ -7,4 +7,4 @@ use Rattle.fixed_header.proofs.header.stream_type_ok.Tie as tie
 
 pub stream-type-ok-spec : {M : Type 1} → statement M
 unfolding streamTypeOk
-stream-type-ok-spec = tie.close (tie.spec (λ c. search (needs, tests)) (λ c. search (needs, tests)) (λ c. search (needs, tests)))
+stream-type-ok-spec = tie.close (tie.spec (λ c. search (needs, tests)) (λ c. search (needs, tests)))

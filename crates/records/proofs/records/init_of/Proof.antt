@@ -8,10 +8,5 @@ pub init-of-spec : {M : Type 1} → statement M
 unfolding recordOf
 init-of-spec =
     tie.close
-    (tie.spec
-    (λ c κs. search needs)
-    (λ c κs. search needs)
-    (λ c. search needs)
-    (λ c. search needs)
-    (λ c. search needs)
+    (tie.spec (λ c κs. search needs) (λ c κs. search needs) (λ c. search needs) (λ c. search needs) (λ c. search needs)
     (λ c. rw (c .before .request-meta-of .ensures, c .response-meta-of .ensures)))

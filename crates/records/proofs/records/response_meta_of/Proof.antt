@@ -7,10 +7,5 @@ use Rattle.records.proofs.records.response_meta_of.Tie as tie
 pub response-meta-of-spec : {M : Type 1} → statement M
 response-meta-of-spec =
     tie.close
-    (tie.spec
-    (λ c. search needs)
-    (λ c. search needs)
-    (λ c κs. search needs)
-    (λ c. search needs)
-    (λ c. search needs)
+    (tie.spec (λ c. search needs) (λ c. search needs) (λ c κs. search needs) (λ c. search needs) (λ c. search needs)
     (λ c. rw (read-back (record { sfits = c .signed .ok }) (c .signed .ensures))))

@@ -1,79 +1,25 @@
--- `put_varint` meets its contract. What is left of `v`, stored from the place reached, always gives what all of it gives.
--- The loop ends because what is left falls.
-use Prim.Native.Nat.{ℕ, zero, suc, _+_, _*_, _/_, _%_, _^_, _<_, _≤_}
-use mathlib.Core.Path.{_≡_, refl, sym, _∙_}
-use mathlib.Core.List.{List}
-use lib.ListN.{length, set, length-set}
-use lib.Seq.{sets}
-use lib.Bits.{bitAnd, bitOr, and-le-r, and-mask, or-lt, or-shifted-r}
+-- `put_varint` meets its contract: `VarintLoop`. The loop ends because what is left falls.
+use mathlib.Core.Path.{sym, _∙_}
+use lib.ListN.{length-set}
 use lib.Dec.{lit<}
-use native.Mathlib.Nat.{mod-lt}
-use native.Mathlib.Numerals.{add-one}
 use native.Mathlib.Omega.{arith}
-use mir.Syntax.{w8}
-use mir.Val.{Fits}
 use borrow.Author.Needs.{needs}
-use Rattle.wire_write.specs.Writing.{shortest, putVarint, stored}
-use Rattle.wire_write.proofs.Encoding.{shortest-last, shortest-more, left-fits, shortest-bounds}
-use Rattle.wire_write.proofs.Outputs.{stored-sets}
+use Rattle.copying.proofs.Outputs.{stored-sets}
+use Rattle.wire_write.proofs.VarintLoop.{group-fits, Putting, start, in-out, again, done}
 use Rattle.wire_write.proofs.storing.put_varint.Statement.{statement}
 use Rattle.wire_write.proofs.storing.put_varint.Tie as tie
-
--- a group of seven bits and a mark above it are a byte
-group-fits : (v mark : ℕ) → mark < 256 → Fits w8 (bitOr (bitAnd v 127) mark)
-group-fits v mark h = record { fits = or-lt 8 (bitAnd v 127) mark (omega (arith, and-le-r v 127)) h }
-
--- a group with the mark that another follows
-byte-of : (v : ℕ) → bitOr (bitAnd v 127) 128 ≡ 128 + v % 128
-byte-of v =
-    let mask : bitAnd v 127 ≡ v % 128 = and-mask v 7 in
-    rw mask (or-shifted-r 1 7 (v % 128) (mod-lt v (omega arith)))
-
--- what is left of `v`, stored from `i` in the output as it is, gives what all of it gives in the output as it was
-record Putting (v : ℕ) (out₀ : List ℕ) (at : ℕ) (out : List ℕ) (rest i : ℕ) : Type 0 where
-  room : ℕ
-  fits : rest < 2 * 128 ^ room
-  enough : at + length (putVarint v) ≤ length out₀
-  size : length out ≡ length out₀
-  place : i + length (shortest (suc room) rest) ≡ at + length (putVarint v)
-  same : sets out i (shortest (suc room) rest) ≡ sets out₀ at (putVarint v)
-
-start : (v : ℕ) (out : List ℕ) (at : ℕ) → v < 18446744073709551616 → at + length (putVarint v) ≤ length out → Putting v out at out v at
-unfolding putVarint
-start v out at h k = record { room = 9; fits = h; enough = k; size = refl; place = refl; same = refl }
-
-module _ (v : ℕ) (out₀ : List ℕ) (at : ℕ) (out : List ℕ) (rest i : ℕ) (p : Putting v out₀ at out rest i) where
-  in-out : i < length out
-  in-out = omega (arith, p .enough, p .size, p .place, shortest-bounds (p .room) rest)
-
-  again : 128 ≤ rest → Putting v out₀ at (set out i (bitOr (bitAnd rest 127) 128)) (rest / 128) (i + 1)
-  again h = step (p .room) (p .fits) (p .place) (p .same)
-    where
-      step : (room : ℕ) → rest < 2 * 128 ^ room → i + length (shortest (suc room) rest) ≡ at + length (putVarint v)
-          → sets out i (shortest (suc room) rest) ≡ sets out₀ at (putVarint v)
-          → Putting v out₀ at (set out i (bitOr (bitAnd rest 127) 128)) (rest / 128) (i + 1)
-      step zero f l s = let z : ⊥ = omega arith in absurd z
-      step (suc room) f l s =
-          record {
-            room = room;
-            fits = left-fits room rest f;
-            enough = p .enough;
-            size = length-set out i (bitOr (bitAnd rest 127) 128) ∙ p .size;
-            place = omega (arith, rw (shortest-more (suc room) rest h) at l);
-            same = rw (byte-of rest, add-one i) (rw (shortest-more (suc room) rest h) at s);
-          }
-
-  done : rest < 128 → (i + 1 ≡ at + length (putVarint v)) × (set out i rest ≡ stored out₀ at (putVarint v))
-  done h = (
-    omega (arith, rw (shortest-last (p .room) rest h) at (p .place)),
-    (rw (shortest-last (p .room) rest h) at (p .same)) ∙ sym (stored-sets out₀ at (putVarint v) (p .enough)),
-  )
 
 abbrev Inv-loop : tie.InvT-loop
 Inv-loop v out₀ at rest₀ i₀ out rest i = Putting v out₀ at out rest i
 
 abbrev μ-loop : tie.MeasureT-loop
 μ-loop v out₀ at rest₀ i₀ out rest i = rest
+
+returns : tie.Need-returns Inv-loop μ-loop
+returns c =
+    let inv = c .before .loop .inv in
+    let end = done _ _ _ _ _ _ inv (c .loop-test .left) in
+    (end .0, end .1 ∙ sym (stored-sets _ _ _ (inv .enough)))
 
 pub put-varint-spec : {M : Type 1} → statement M
 put-varint-spec =
@@ -89,4 +35,4 @@ put-varint-spec =
     (λ c. in-out _ _ _ _ _ _ (c .before .loop .inv))
     (λ c. omega (arith, in-out _ _ _ _ _ _ (c .before .loop .inv)))
     (λ c. simp length-set (c .before .loop .inv .size))
-    (λ c. done _ _ _ _ _ _ (c .before .loop .inv) (c .loop-test .left)))
+    returns)
