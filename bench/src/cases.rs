@@ -4,8 +4,7 @@ use crate::entries::{Deframe, HeaderCheck, QueueCalls};
 use crate::frames::{mixed_total, small_total, Frames};
 use crate::inputs::{headers, large_requests, responses, small_requests, Input, VARIANTS};
 use crate::library::{self, PARTS, RECORD_NUMBERS};
-use crate::plain::deframer::Deframer;
-use crate::plain::header::LARGEST;
+use crate::plain::deframer::{Buffer, Deframer};
 use crate::plain::messages::{Message, Request, Response};
 use crate::plain::queue::{Job, Queue, CAPACITY};
 use crate::plain::reader::{self, Reading, ROW_NUMBERS};
@@ -156,10 +155,10 @@ fn to_buffer<M: 'static>(
     inputs: &Rc<Vec<Input<M>>>,
     mut write: impl FnMut(usize, &Input<M>, &mut [u8]) -> usize,
 ) -> impl FnMut() -> u64 {
-    let mut out = vec![0; LARGEST];
+    let mut out = Buffer::page();
     over(inputs, move |index, input| {
-        let size = write(index, input, &mut out);
-        black_box(&out);
+        let size = write(index, input, &mut out.0);
+        black_box(&out.0);
         size as u64
     })
 }
@@ -243,12 +242,12 @@ fn cutting(name: &str, total: fn(&mut Random) -> u64, bytes: usize, piece: usize
     let stream = Rc::new(frames.concat());
     let lent = |deframe: Deframe| {
         let stream = stream.clone();
-        let (mut held, mut error, mut buffer) = (0, 0, vec![0; LARGEST]);
+        let (mut held, mut error, mut buffer) = (0, 0, Buffer::page());
         move || {
             cut(&stream, piece, |rest, taken| {
                 let mut size = 0;
-                let code = deframe.call(&mut held, &mut error, &mut buffer, rest, taken, &mut size);
-                (code, id(&buffer, size))
+                let code = deframe.call(&mut held, &mut error, &mut buffer.0, rest, taken, &mut size);
+                (code, id(&buffer.0, size))
             })
         }
     };

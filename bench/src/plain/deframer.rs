@@ -38,12 +38,23 @@ fn known(held: usize, error: Error, buffer: &[u8; LARGEST]) -> bool {
 pub struct Deframer {
     held: usize,
     error: Error,
-    buffer: Box<[u8; LARGEST]>,
+    buffer: Box<Buffer>,
+}
+
+/// The largest frame's bytes, from the start of a page: the time of a copy depends on where its ends lie, so all contenders'
+/// outputs lie alike.
+#[repr(align(4096))]
+pub struct Buffer(pub [u8; LARGEST]);
+
+impl Buffer {
+    pub fn page() -> Box<Buffer> {
+        Box::new(Buffer([0; LARGEST]))
+    }
 }
 
 impl Default for Deframer {
     fn default() -> Deframer {
-        Deframer { held: 0, error: 0, buffer: Box::new([0; LARGEST]) }
+        Deframer { held: 0, error: 0, buffer: Buffer::page() }
     }
 }
 
@@ -52,12 +63,12 @@ impl Deframer {
     pub fn push(&mut self, piece: &[u8], taken: &mut usize, size: &mut usize) -> Error {
         *taken = 0;
         *size = 0;
-        advance(&mut self.held, &mut self.error, &mut self.buffer, piece, taken, size)
+        advance(&mut self.held, &mut self.error, &mut self.buffer.0, piece, taken, size)
     }
 
     /// The frame that the last call made whole.
     pub fn frame(&self, size: usize) -> &[u8] {
-        &self.buffer[..size]
+        &self.buffer.0[..size]
     }
 }
 

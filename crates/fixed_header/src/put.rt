@@ -2,7 +2,7 @@
 use crate::FrameType;
 ghost use mathlib.Core.Path.{_≡_};
 ghost use mathlib.Core.List.{[], _∷_};
-ghost use Prim.Native.Nat.{_+_, _≤_};
+ghost use Prim.Native.Nat.{_+_, _/_, _%_, _≤_};
 ghost use lib.ListN.{length};
 ghost use lib.Seq.{sets};
 ghost use Rattle.fixed_header.specs.Put.{put16, put32, dataType, streamType};
@@ -38,8 +38,21 @@ pub(crate) fn put_u16(value: usize, out: &mut [u8], at: usize)
     requires { ⌜ at + 2 ≤ length (now out) ⌝ }
     ensures { λ _. ⌜ now (out .exit) ≡ sets (now (out .entry)) at (put16 value) ⌝ }
 {
-    out[at] = (value / 256 % 256) as u8;
-    out[at + 1] = (value % 256) as u8;
+    let turned = value % 256 * 256 + value / 256 % 256;
+    out[at] = (turned % 256) as u8;
+    out[at + 1] = (turned / 256) as u8;
+}
+
+// Four bytes of a number, the low one first, which the compiler makes one store of.
+fn put_low(value: usize, out: &mut [u8], at: usize)
+    requires { ⌜ at + 4 ≤ length (now out) ⌝ }
+    ensures { λ _. ⌜ now (out .exit) ≡ sets (now (out .entry)) at
+        ((value % 256) ∷ (value / 256 % 256) ∷ (value / 65536 % 256) ∷ (value / 16777216 % 256) ∷ []) ⌝ }
+{
+    out[at] = (value % 256) as u8;
+    out[at + 1] = (value / 256 % 256) as u8;
+    out[at + 2] = (value / 65536 % 256) as u8;
+    out[at + 3] = (value / 16777216 % 256) as u8;
 }
 
 // Four bytes, the high one first.
@@ -47,8 +60,9 @@ pub(crate) fn put_u32(value: usize, out: &mut [u8], at: usize)
     requires { ⌜ at + 4 ≤ length (now out) ⌝ }
     ensures { λ _. ⌜ now (out .exit) ≡ sets (now (out .entry)) at (put32 value) ⌝ }
 {
-    put_u16(value / 65536, out, at);
-    put_u16(value % 65536, out, at + 2);
+    let high = value / 65536 / 256 % 256 + value / 65536 % 256 * 256;
+    let low = value % 65536 / 256 % 256 + value % 65536 % 256 * 256;
+    put_low(high + low * 65536, out, at);
 }
 
 // The magic, the data type and the stream type.
@@ -56,8 +70,6 @@ pub(crate) fn put_types(frame_type: FrameType, out: &mut [u8])
     requires { ⌜ 4 ≤ length (now out) ⌝ }
     ensures { λ _. ⌜ now (out .exit) ≡ sets (now (out .entry)) 0 (0x09 ∷ 0x30 ∷ dataType «frame_type» ∷ streamType «frame_type» ∷ []) ⌝ }
 {
-    out[0] = 0x09;
-    out[1] = 0x30;
-    out[2] = data_type(frame_type);
-    out[3] = stream_type(frame_type);
+    let types = data_type(frame_type) as usize + stream_type(frame_type) as usize * 256;
+    put_low(0x3009 + types * 65536, out, 0);
 }

@@ -1,5 +1,6 @@
 // The fields of a message in straight lines, stored in an output with room for them.
 use crate::init::put_init;
+use crate::put::put_map;
 use crate::put::put_number;
 use crate::put::put_rows;
 use crate::put::put_signed;
@@ -67,7 +68,7 @@ fn put_request(
     let a = put_first(n, out, at);
     let b = put_names(n, source, out, a);
     let c = put_number(0x40, n[10], out, b);
-    let d = put_rows(0x4a, count, source, rows, out, c);
+    let d = put_map(0x4a, count, source, rows, out, c);
     put_last(n, out, d)
 }
 
@@ -111,7 +112,7 @@ fn put_response(
     let a = put_status(n, out, at);
     let b = put_some(0x32, n[5], n[6], source, out, a);
     let c = put_number(0x38, n[7], out, b);
-    let d = put_rows(0x42, count, source, rows, out, c);
+    let d = put_map(0x42, count, source, rows, out, c);
     put_content(n, out, d)
 }
 

@@ -133,3 +133,23 @@ pub(crate) fn put_rows(
     }
     next
 }
+
+// The same, with no call where there are none.
+pub(crate) fn put_map(
+    tag: u8,
+    count: usize,
+    source: &[u8],
+    rows: &[u32],
+    out: &mut [u8],
+    at: usize,
+) -> usize
+    requires { ⌜ (tag < 128) × (tag % 8 ≡ 2) × RowsIn count (now source) (now rows)
+        × (at + length (putRows (now source) (tag / 8) (rowsIn count (now rows))) ≤ length (now out)) ⌝ }
+    ensures { λ r. ⌜ Did (putRows (now (source .entry)) (tag / 8) (rowsIn count (now (rows .entry)))) (now (out .entry)) at r
+        (now (out .exit)) ⌝ }
+{
+    if count == 0 {
+        return at;
+    }
+    put_rows(tag, count, source, rows, out, at)
+}

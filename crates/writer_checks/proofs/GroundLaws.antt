@@ -83,6 +83,11 @@ few-differ source zero l h = refl
 few-differ source (suc zero) l h = refl
 few-differ source (suc (suc n)) l h = let z : ⊥ = omega arith in absurd z
 
+-- two keys differ where the second is not the first
+pub two-differ : (source l : List ℕ) {r : Bool} → r ≡ noneAfter source l 2 0 → r ≡ keysDiffer source (rowsIn 2 l)
+unfolding rowsIn keysDiffer noKey
+two-differ source l e = simp and-true (e ∙ and-true _)
+
 -- ---- a key among the rows
 suc-eqb : (a b : ℕ) → eqb (suc a) (suc b) ≡ eqb a b
 suc-eqb a b = by (eqb a b) refl

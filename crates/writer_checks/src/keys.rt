@@ -74,6 +74,9 @@ pub(crate) fn keys_differ(source: &[u8], rows: &[u32], count: usize) -> bool
     if count < 2 {
         return true;
     }
+    if count == 2 {
+        return no_key(source, rows, count, 0);
+    }
     let mut seen = [0; 256];
     marks_differ(source, rows, count, &mut seen)
 }
