@@ -1,8 +1,8 @@
--- The moves of the deframer, over plain lists: what comes first in a stream, case by case, and what each `return` of `body`, `head` and
--- `deframe` asks
+-- The moves of the deframer, over plain lists: what comes first in a stream, case by case, and what each `return` of `content`, `head`
+-- and `deframe` asks
 use Prim.Native.Nat.{ℕ, _+_, _-_, _≤_, _<_, min}
 use mathlib.Core.Path.{_≡_, refl, sym, ap, _∙_}
-use mathlib.Core.Bool.{true, false}
+use mathlib.Core.Bool.{Bool, true, false, cond}
 use mathlib.Core.List.{List, _++_}
 use native.Mathlib.Omega.{arith}
 use native.Mathlib.Nat.{sub-self}
@@ -11,14 +11,13 @@ use borrow.Author.Tests.{lt-ltb, le-ltb, le-leb, lt-leb, eq-eqb, ne-eqb}
 use lib.ListN.{length, take, drop, take-append-drop}
 use lib.Seq.{length-take-le, take-at}
 use Rattle.fixed_header.specs.Header.{maxFrame, headerError, totalOf}
-use Rattle.deframer.specs.Deframe.{fresh, knownOf, stream, nextFrame, reach, nextState, advance, refuse, unmoved, deframed}
+use Rattle.deframer.specs.Deframe.{knownOf, stream, nextFrame, reach, nextState, advance, refuse, unmoved, deframed}
 use Rattle.deframer.specs.declared.Deframer.{Deframer}
 use Rattle.deframer.specs.declared.Step.{Step}
 use Rattle.deframer.specs.declared.Progress.{Progress}
 use Rattle.deframer.specs.declared.Progress.the-variants.{Frame, NeedMore, Refused}
 use Rattle.deframer.proofs.Lists.{stream-length, stream-head, drop-stream}
 use Rattle.laws.proofs.Lists.{drop-past}
-use Rattle.laws.proofs.Booleans.{clash}
 use Rattle.fixed_header.proofs.Codes.{good-total}
 
 -- ---- what comes first in a stream
@@ -67,18 +66,6 @@ reach-past l h = go (shape l)
     go (part p e t) = rw (next-part l p e t) p
     go (whole p e t) = rw (next-whole l p e t) (good-total (take 16 l) e .0)
 
--- a frame that comes first is in the stream, and no larger than a frame can be
-pub frame-within : (s : List ℕ) (n : ℕ) → nextFrame s ≡ Frame n → (n ≤ length s) × (n ≤ maxFrame)
-frame-within s n e = go (shape s)
-  where
-    go : Shape s → (n ≤ length s) × (n ≤ maxFrame)
-    go (short p) = clash (cc (next-short s p))
-    go (bad p b) = clash (cc (next-bad s p b))
-    go (part p g t) = clash (cc (next-part s p g t))
-    go (whole p g t) =
-        let is : n ≡ totalOf (take 16 s) = cc (next-whole s p g t) in
-        (omega arith, omega (arith, good-total (take 16 s) g))
-
 -- ---- a move: r and ys are its answer and its buffer at the stream l
 abbrev pub Moved : Step → List ℕ → ℕ → List ℕ → List ℕ → Type 0
 Moved r ys old d l = (r ≡ advance old d l .step) × (ys ≡ advance old d l .buffer)
@@ -88,32 +75,24 @@ move : (p : Progress) (d l ys : List ℕ) (old k : ℕ) (st : Deframer) → next
     → Moved (record { progress = p; next = st; taken = k - old }) ys old d l
 move p d l ys old k st f e s y = rw (f, ← e, ← s) (refl, y)
 
--- ---- `body`: the rest of a frame, after a good header that is in the buffer
-module _ (d q ys : List ℕ) (old held h t : ℕ) (big : maxFrame ≤ length d) (good : headerError (take 16 d) ≡ 0) (past : 16 ≤ held)
-    (is : t ≡ totalOf (take 16 d)) (upto : held ≤ t) (hm : h ≡ min t (length (stream held d q)))
-    (y : ys ≡ take h (stream held d q) ++ drop h d) where
-  fits : held ≤ length d
-  fits = omega (arith, good-total (take 16 d) good)
+-- where 16 bytes or more of a stream are in the buffer, it begins with the buffer's header
+pub begins : (d q : List ℕ) (held t : ℕ) → 16 ≤ held → held ≤ length d → headerError (take 16 d) ≡ 0 → t ≡ totalOf (take 16 d)
+    → (16 ≤ length (stream held d q)) × (headerError (take 16 (stream held d q)) ≡ 0) × (t ≡ totalOf (take 16 (stream held d q)))
+begins d q held t past fits good is =
+    rw (stream-head d q held fits 16 past) (omega (arith, stream-length d q held fits), good, is)
 
-  head : take 16 (stream held d q) ≡ take 16 d
-  head = stream-head d q held fits 16 past
+-- ---- `content`: the stream l begins with a frame of t bytes, and h of its bytes are in the buffer
+module _ (d l ys : List ℕ) (old h t : ℕ) (long : 16 ≤ length l) (good : headerError (take 16 l) ≡ 0) (is : t ≡ totalOf (take 16 l))
+    (hm : h ≡ min t (length l)) (y : ys ≡ take h l ++ drop h d) where
+  pub content-more : h < t → Moved (record { progress = NeedMore; next = record { held = h; error = 0 }; taken = h - old }) ys old d l
+  content-more u =
+      let e : h ≡ length l = omega arith in
+      move NeedMore d l ys old h _ (next-part l long good (omega arith)) e (ap (λ (n : ℕ). record { held = n; error = 0 }) e) y
 
-  long : 16 ≤ length (stream held d q)
-  long = omega (arith, stream-length d q held fits)
-
-  pub body-more : h < t
-      → Moved (record { progress = NeedMore; next = record { held = h; error = 0 }; taken = h - old }) ys old d (stream held d q)
-  body-more l =
-      let e : h ≡ length (stream held d q) = omega arith in
-      move NeedMore d (stream held d q) ys old h _ (next-part (stream held d q) long (rw head good) (rw head (omega arith))) e
-      (ap (λ (n : ℕ). record { held = n; error = 0 }) e) y
-
-  pub body-whole : t ≤ h
-      → Moved (record { progress = Frame t; next = record { held = 0; error = 0 }; taken = t - old }) ys old d (stream held d q)
-  body-whole l =
+  pub content-whole : t ≤ h → Moved (record { progress = Frame t; next = record { held = 0; error = 0 }; taken = t - old }) ys old d l
+  content-whole u =
       let e : h ≡ t = omega arith in
-      move (Frame t) d (stream held d q) ys old t _
-      (next-whole (stream held d q) long (rw head good) (rw head (omega arith)) ∙ ap Frame (ap totalOf head ∙ sym is)) refl refl (rw e at y)
+      move (Frame t) d l ys old t _ (next-whole l long good (omega arith) ∙ ap Frame (sym is)) refl refl (rw e at y)
 
 -- ---- `head`: r bytes of the stream are in the buffer ys
 module _ (d p ys : List ℕ) (held r : ℕ) (big : maxFrame ≤ length d) (under : held < 16)
@@ -165,15 +144,6 @@ module _ (d p ys : List ℕ) (held r : ℕ) (big : maxFrame ≤ length d) (under
         (reach-past (stream held d p) full) refl in
         (n .0, n .1 ∙ ap (λ (x : List ℕ). take k (stream held d p) ++ x) e)
 
--- ---- `take_whole`: the piece starts with a frame, and nothing is held
-pub whole-taken : (d p ys : List ℕ) (size : ℕ) → nextFrame p ≡ Frame size
-    → ys ≡ stream 0 d (take size p) ++ drop (0 + length (take size p)) d
-    → Moved (record { progress = Frame size; next = record { held = 0; error = 0 }; taken = size }) ys 0 d (stream 0 d p)
-whole-taken d p ys size f y =
-    let all : 0 + length (take size p) ≡ size = omega (arith, length-take-le size p (frame-within p size f .0)) in
-    let none : size - 0 ≡ size = omega arith in
-    rw (f, none) (refl, rw all at y)
-
 -- ---- `deframe`: the outcomes of a call
 module _ (st : Deframer) (d p : List ℕ) where
   pub call-small : length d < maxFrame → deframed st d p ≡ unmoved 1 st d
@@ -194,6 +164,13 @@ module _ (st : Deframer) (d p : List ℕ) where
       unfolding deframed
       call-moves z = simp (le-ltb _ _ big, known, eq-eqb _ _ z)
 
+    pub call-held : (st .error ≡ 0 → ⊥) → deframed st d p ≡ unmoved (cond (knownOf st d) (st .error) 2) st d
+    call-held n = by (knownOf st d) refl
+      where
+        by : (k : Bool) → knownOf st d ≡ k → deframed st d p ≡ unmoved (cond k (st .error) 2) st d
+        by true e = call-refused e n
+        by false e = call-unknown e
+
 -- r and ys are the answer and the buffer of a call
 abbrev pub Called : Step → List ℕ → Deframer → List ℕ → List ℕ → Type 0
 Called r ys st d p = (r ≡ deframed st d p .step) × (ys ≡ deframed st d p .buffer)
@@ -205,12 +182,6 @@ called-refused st d p n r e u = rw u (e, refl)
 pub called-moved : (st : Deframer) (d p : List ℕ) (r : Step) (ys : List ℕ) → deframed st d p ≡ advance (st .held) d (stream (st .held) d p)
     → Moved r ys (st .held) d (stream (st .held) d p) → Called r ys st d p
 called-moved st d p r ys e m = rw e m
-
--- a fresh state is known, and the stream is the piece
-pub from-fresh : (st : Deframer) (d p : List ℕ) (r : Step) (ys : List ℕ) → maxFrame ≤ length d → st ≡ fresh
-    → Moved r ys 0 d (stream 0 d p) → Called r ys st d p
-unfolding knownOf
-from-fresh st d p r ys big e m = rw e (called-moved fresh d p r ys (call-moves fresh d p big refl refl) m)
 
 -- where the header is in the buffer at the call, nothing of the piece is in it
 pub from-start : (r : Step) (ys d p : List ℕ) (held : ℕ) → Moved r ys held d (stream held d (drop (held - held) p))

@@ -1,6 +1,6 @@
 -- Which states are known, and what a known state tells
 use Prim.Native.Nat.{ℕ, _≤_, _<_}
-use mathlib.Core.Path.{_≡_, refl, sym, _∙_}
+use mathlib.Core.Path.{_≡_, refl, sym, ap, _∙_}
 use mathlib.Core.Logic.{inl, inr}
 use mathlib.Core.Bool.{Bool, true, false, _&&_}
 use mathlib.Core.List.{List}
@@ -21,6 +21,10 @@ module _ (st : Deframer) (d : List ℕ) where
     pub known-short : st .held < 16 → knownOf st d ≡ true
     unfolding knownOf
     known-short h = simp (eq-eqb _ _ none, lt-ltb _ _ h)
+
+    -- what it holds decides
+    pub known-by : {b : Bool} → knownOf (record { held = st .held; error = 0 }) d ≡ b → knownOf st d ≡ b
+    known-by e = ap (λ (n : ℕ). knownOf (record { held = st .held; error = n }) d) none ∙ e
 
     pub known-total : 16 ≤ st .held → headerError (take 16 d) ≡ 0 → knownOf st d ≡ ltb (st .held) (totalOf (take 16 d))
     unfolding knownOf

@@ -6,12 +6,15 @@ use copying::copy_to;
 use fixed_header::HEADER;
 use fixed_header::check_header;
 use fixed_header::declared_size;
+use refusals::STATE_UNKNOWN;
 ghost use mathlib.Core.Path.{_≡_};
 ghost use mathlib.Core.List.{_++_};
+ghost use mathlib.Core.Bool.{cond};
 ghost use Prim.Native.Nat.{_+_, _-_, _≤_, _<_, min};
+ghost use lib.Dec.{ltb};
 ghost use lib.ListN.{length, take, drop};
 ghost use Rattle.fixed_header.specs.Header.{headerError, totalOf, maxFrame};
-ghost use Rattle.deframer.specs.Deframe.{knownOf, stream, advance, refuse};
+ghost use Rattle.deframer.specs.Deframe.{knownOf, stream, advance, refuse, deframed};
 
 // A refused call: the state as given, nothing taken.
 pub(crate) fn refused(code: u32, state: Deframer) -> Step
@@ -22,6 +25,26 @@ pub(crate) fn refused(code: u32, state: Deframer) -> Step
         next: state,
         taken: 0,
     }
+}
+
+// The size of the frame that the bytes start with, where its header is good and `held` bytes are not all of it; else 0.
+fn frame_size(bytes: &[u8], held: usize) -> usize
+    ensures { λ r. ⌜ ((r ≡ 0 → ⊥) → (16 ≤ length (now (bytes .entry))) × (headerError (take 16 (now (bytes .entry))) ≡ 0)
+        × (r ≡ totalOf (take 16 (now (bytes .entry)))) × (held < r)) ⌝ }
+    ensures { λ r. ⌜ (16 ≤ held → 16 ≤ length (now (bytes .entry))
+        → knownOf (record { held = held; error = 0 }) (now (bytes .entry)) ≡ ltb 0 r) ⌝ }
+{
+    if bytes.len() < HEADER {
+        return 0;
+    }
+    if check_header(&bytes[..HEADER]) != 0 {
+        return 0;
+    }
+    let total = declared_size(bytes);
+    if total <= held {
+        return 0;
+    }
+    total
 }
 
 // Whether a call can have left this state with this buffer.
@@ -35,10 +58,7 @@ pub(crate) fn known(state: Deframer, buffer: &[u8]) -> bool
         if held < HEADER {
             return true;
         }
-        if check_header(&buffer[..HEADER]) != 0 {
-            return false;
-        }
-        return held < declared_size(buffer);
+        return 0 < frame_size(buffer, held);
     }
     if held != HEADER {
         return false;
@@ -46,8 +66,20 @@ pub(crate) fn known(state: Deframer, buffer: &[u8]) -> bool
     check_header(&buffer[..HEADER]) == error
 }
 
+// A call after a refused header: its code again, where the state is known.
+pub(crate) fn repeated(state: Deframer, buffer: &[u8]) -> Step
+    requires { ⌜ maxFrame ≤ length (now buffer) ⌝ }
+    ensures { λ r. ⌜ r ≡ refuse (cond (knownOf state (now (buffer .entry))) (state .error) 2) state ⌝ }
+{
+    let error = state.error;
+    if known(state, buffer) {
+        return refused(error, state);
+    }
+    refused(STATE_UNKNOWN, state)
+}
+
 // Puts the source after the bytes held.
-pub(crate) fn put(buffer: &mut [u8], held: usize, source: &[u8])
+fn put(buffer: &mut [u8], held: usize, source: &[u8])
     requires { ⌜ held + length (now source) ≤ length (now buffer) ⌝ }
     ensures { λ _. ⌜ now (buffer .exit)
         ≡ stream held (now (buffer .entry)) (now (source .entry)) ++ drop (held + length (now (source .entry))) (now (buffer .entry)) ⌝ }
@@ -70,17 +102,18 @@ fn fill(buffer: &mut [u8], held: usize, goal: usize, piece: &[u8]) -> usize
     goal
 }
 
-// The rest of a frame whose good header is in the buffer. `old` bytes were held when the call began; those of the piece
-// after them, up to `held`, are in the buffer already.
-pub(crate) fn body(buffer: &mut [u8], old: usize, held: usize, piece: &[u8]) -> Step
-    requires { ⌜ (maxFrame ≤ length (now buffer)) × (headerError (take 16 (now buffer)) ≡ 0) × (16 ≤ held)
-        × (held ≤ totalOf (take 16 (now buffer))) × (old ≤ held) × (held - old ≤ length (now piece)) ⌝ }
+// The rest of a frame of `total` bytes. `old` bytes were held when the call began; those of the piece after them, up to `held`, are in
+// the buffer already.
+fn content(buffer: &mut [u8], old: usize, held: usize, total: usize, piece: &[u8]) -> Step
+    requires { ⌜ (maxFrame ≤ length (now buffer)) × (16 ≤ length (stream held (now buffer) (drop (held - old) (now piece))))
+        × (headerError (take 16 (stream held (now buffer) (drop (held - old) (now piece)))) ≡ 0)
+        × (total ≡ totalOf (take 16 (stream held (now buffer) (drop (held - old) (now piece)))))
+        × (held ≤ total) × (old ≤ held) × (held - old ≤ length (now piece)) ⌝ }
     ensures { λ r. ⌜ r ≡ advance old (now (buffer .entry)) (stream held (now (buffer .entry)) (drop (held - old) (now (piece .entry))))
         .step ⌝ }
     ensures { λ r. ⌜ now (buffer .exit)
         ≡ advance old (now (buffer .entry)) (stream held (now (buffer .entry)) (drop (held - old) (now (piece .entry)))) .buffer ⌝ }
 {
-    let total = declared_size(buffer);
     let from = held - old;
     let filled = fill(buffer, held, total, &piece[from..]);
     if filled < total {
@@ -100,8 +133,22 @@ pub(crate) fn body(buffer: &mut [u8], old: usize, held: usize, piece: &[u8]) -> 
     }
 }
 
+// A frame of which 16 bytes or more are held: their header is checked again, since the state and the buffer are the caller's.
+pub(crate) fn more(state: Deframer, buffer: &mut [u8], piece: &[u8]) -> Step
+    requires { ⌜ (maxFrame ≤ length (now buffer)) × (16 ≤ state .held) × (state .error ≡ 0) ⌝ }
+    ensures { λ r. ⌜ r ≡ deframed state (now (buffer .entry)) (now (piece .entry)) .step ⌝ }
+    ensures { λ r. ⌜ now (buffer .exit) ≡ deframed state (now (buffer .entry)) (now (piece .entry)) .buffer ⌝ }
+{
+    let held = state.held;
+    let total = frame_size(buffer, held);
+    if total == 0 {
+        return refused(STATE_UNKNOWN, state);
+    }
+    content(buffer, held, held, total, piece)
+}
+
 // The header, of which fewer than 16 bytes are held, is checked once its 16th byte is there; after a good one the frame goes on.
-pub(crate) fn head(buffer: &mut [u8], held: usize, piece: &[u8]) -> Step
+fn head(buffer: &mut [u8], held: usize, piece: &[u8]) -> Step
     requires { ⌜ (maxFrame ≤ length (now buffer)) × (held < 16) ⌝ }
     ensures { λ r. ⌜ r ≡ advance held (now (buffer .entry)) (stream held (now (buffer .entry)) (now (piece .entry))) .step ⌝ }
     ensures { λ r. ⌜ now (buffer .exit)
@@ -129,5 +176,22 @@ pub(crate) fn head(buffer: &mut [u8], held: usize, piece: &[u8]) -> Step
             taken: HEADER - held,
         };
     }
-    body(buffer, held, HEADER, piece)
+    let total = declared_size(buffer);
+    content(buffer, held, HEADER, total, piece)
+}
+
+// Fewer than 16 bytes are held. Where none is, and the piece has a good header, one copy takes what the piece has of the frame.
+pub(crate) fn start(buffer: &mut [u8], held: usize, piece: &[u8]) -> Step
+    requires { ⌜ (maxFrame ≤ length (now buffer)) × (held < 16) ⌝ }
+    ensures { λ r. ⌜ r ≡ advance held (now (buffer .entry)) (stream held (now (buffer .entry)) (now (piece .entry))) .step ⌝ }
+    ensures { λ r. ⌜ now (buffer .exit)
+        ≡ advance held (now (buffer .entry)) (stream held (now (buffer .entry)) (now (piece .entry))) .buffer ⌝ }
+{
+    if held == 0 {
+        let total = frame_size(piece, 0);
+        if total != 0 {
+            return content(buffer, 0, 0, total, piece);
+        }
+    }
+    head(buffer, held, piece)
 }

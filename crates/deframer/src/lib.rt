@@ -4,7 +4,6 @@
 // piece that arrives to `deframe`, together with both, until the piece is taken; at the end of the input it asks `finish`.
 // No function here has a `requires`: each takes every argument, and refuses a bad one with an error code of document 01.
 mod fill;
-mod whole;
 
 use fixed_header::HEADER;
 use fixed_header::MAX_FRAME;
@@ -46,25 +45,16 @@ pub fn deframe(state: Deframer, buffer: &mut [u8], piece: &[u8]) -> Step
     ensures { λ r. ⌜ r ≡ deframed state (now (buffer .entry)) (now (piece .entry)) .step ⌝ }
     ensures { λ r. ⌜ now (buffer .exit) ≡ deframed state (now (buffer .entry)) (now (piece .entry)) .buffer ⌝ }
 {
-    let held = state.held;
-    let error = state.error;
     if buffer.len() < MAX_FRAME {
         return fill::refused(BUFFER_SHORT, state);
     }
-    let size = whole::whole_size(state, piece);
-    if size != 0 {
-        return whole::take_whole(buffer, size, piece);
+    if state.error != 0 {
+        return fill::repeated(state, buffer);
     }
-    if !fill::known(state, buffer) {
-        return fill::refused(STATE_UNKNOWN, state);
+    if state.held < HEADER {
+        return fill::start(buffer, state.held, piece);
     }
-    if error != 0 {
-        return fill::refused(error, state);
-    }
-    if HEADER <= held {
-        return fill::body(buffer, held, held, piece);
-    }
-    fill::head(buffer, held, piece)
+    fill::more(state, buffer, piece)
 }
 
 // How the stream ends, if no byte comes after those that the deframer took.

@@ -2,15 +2,17 @@
 use mathlib.Core.Path.{sym, _∙_}
 use native.Mathlib.Omega.{arith}
 use borrow.Author.Needs.{needs}
+use Prim.Native.Nat.{_-_, _≤_}
+use lib.ListN.{length, take, drop}
 use lib.Seq.{length-take-le}
-use Rattle.fixed_header.proofs.Codes.{good-total}
-use Rattle.deframer.proofs.Advance.{head-short, head-bad, head-room, head-on}
+use Rattle.fixed_header.proofs.Codes.{good-total, declared}
+use Rattle.deframer.proofs.Advance.{begins, head-short, head-bad, head-room, head-on}
 use Rattle.deframer.proofs.Lists.{stream-length}
 use Rattle.deframer.proofs.fill.head.Statement.{statement}
 use Rattle.deframer.proofs.fill.head.Tie as tie
 
-sub-t11 : tie.Need-sub-t11
-sub-t11 c =
+sub-t12 : tie.Need-sub-t12
+sub-t12 c =
     let at-fill = c .before .before .before in
     let args = at-fill .before .before .before .before .args in
     omega (arith, at-fill .fill .ensures .0, stream-length (args .buffer .now) (args .piece .now) (args .held) (omega arith))
@@ -40,19 +42,26 @@ returns-2 c =
     (at-if1 .if1 .left) _
     (c .before .check-header .ensures) (c .if2 .taken)
 
-body-requires : tie.Need-body-requires
-body-requires c κs =
-    let at-check = c .before .before in
-    let at-if1 = at-check .before .before in
+content-requires : tie.Need-content-requires
+content-requires c κs =
+    let at-size = c .before in
+    let at-if2 = at-size .before .before in
+    let at-if1 = at-if2 .before .before .before in
     let at-fill = at-if1 .before .before .before in
     let filled = at-fill .fill .ensures in
     let start = at-fill .before .before .before .before in
     let args = start .args in
-    let good = sym (at-check .check-header .ensures) ∙ c .before .if2 .left in (
-      omega (arith, at-fill .fill .kept .0),
-      good,
-      omega arith,
-      good-total _ good .0,
+    let ys = at-fill .fill .last .0 in
+    let big : 65536 ≤ length ys = omega (arith, at-fill .fill .kept .0) in
+    let good = sym (at-if2 .before .check-header .ensures) ∙ at-if2 .if2 .left in
+    let is = at-size .declared-size .ensures ∙ declared ys (omega arith) in
+    let rest = drop (16 - args .held) (args .piece .now) in
+    let begun = begins ys rest 16 (at-size .declared-size .result) (omega arith) (omega arith) good is in (
+      big,
+      begun .0,
+      begun .1,
+      begun .2,
+      omega (arith, is, good-total (take 16 ys) good),
       omega arith,
       head-room (args .buffer .now) (args .piece .now) _ (args .held) _ (start .pre .0) (start .pre .1) (filled .0) (filled .1)
           (at-if1 .if1 .left),
@@ -60,18 +69,19 @@ body-requires c κs =
 
 returns-3 : tie.Need-returns-3
 returns-3 c =
-    let at-body = c .before .before in
-    let at-if1 = at-body .before .before .before .before .before in
+    let at-content = c .before .before in
+    let at-if1 = at-content .before .before .before .before .before .before .before in
     let at-fill = at-if1 .before .before .before in
     let filled = at-fill .fill .ensures in
     let start = at-fill .before .before .before .before in
     let args = start .args in
     head-on (args .buffer .now) (args .piece .now) _ (args .held) _ (start .pre .0) (start .pre .1) (filled .0) (filled .1)
     (at-if1 .if1 .left) _ _
-    (at-body .body .ensures)
+    (at-content .content .ensures)
 
 pub head-spec : {M : Type 1} → statement M
 head-spec =
     tie.close
-    (tie.spec (λ c κs. search needs) sub-t11 (λ c. search needs) returns (λ c. search needs) slice-aggregate-check-header
-    (λ c κs. search needs) (λ c. search needs) (λ c. search needs) returns-2 body-requires (λ c. search needs) returns-3)
+    (tie.spec (λ c κs. search needs) sub-t12 (λ c. search needs) returns (λ c. search needs) slice-aggregate-check-header
+    (λ c κs. search needs) (λ c. search needs) (λ c. search needs) returns-2 (λ c κs. search needs) content-requires (λ c. search needs)
+    returns-3)
