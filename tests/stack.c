@@ -135,12 +135,15 @@ static void call_parse(void)
     code = trpc_header_parse(frame, TRPC_HEADER_SIZE, &type, &total, &size, &id);
 }
 
+static size_t cut; /* how much of the frame comes with a call of its own */
+
 static void call_deframe(void)
 {
     size_t held = 0, taken, size;
     uint32_t error = 0;
 
-    code = trpc_deframe(&held, &error, out, sizeof out, frame, frame_len, &taken, &size);
+    trpc_deframe(&held, &error, out, sizeof out, frame, cut, &taken, &size);
+    code = trpc_deframe(&held, &error, out, sizeof out, frame + cut, frame_len - cut, &taken, &size);
 }
 
 static void call_finish(void)
@@ -155,13 +158,14 @@ static void call_read(void)
     code = read_as(kind, frame, frame_len, rows, ROW_NUMBERS, record);
 }
 
+static size_t room, written;
+
 static void call_write(void)
 {
     size_t body = kind == 0 || kind == 1 || kind == 3;
-    struct written_from lent = {{frame, sizeof frame}, {rows, ROW_NUMBERS}, {frame, body}, out, sizeof out};
-    size_t size;
+    struct written_from lent = {{frame, sizeof frame}, {rows, ROW_NUMBERS}, {frame, body}, out, room};
 
-    code = write_as(kind, record, lent, &size);
+    code = write_as(kind, record, lent, &written);
 }
 
 static void call_init(void)
@@ -206,18 +210,25 @@ static void check(const char *group, size_t *most, void (*call)(void), uint32_t 
 
 int main(void)
 {
+    static const size_t cuts[] = {0, 1, TRPC_HEADER_SIZE + 1}; /* a whole frame; a part of the header held; more than it */
     size_t header = 0, deframer = 0, readers = 0, writers = 0, jobs = 0;
 
     for (kind = 0; kind < KINDS; kind++) {
         make_frame(MOST_GROUPS);
         check("header", &header, call_check, TRPC_HEADER_GOOD);
         check("header", &header, call_parse, TRPC_HEADER_GOOD);
-        check("deframer", &deframer, call_deframe, TRPC_DEFRAME_DONE);
+        for (size_t i = 0; i < sizeof cuts / sizeof *cuts; i++) {
+            cut = cuts[i];
+            check("deframer", &deframer, call_deframe, TRPC_DEFRAME_DONE);
+        }
         check("deframer", &deframer, call_finish, TRPC_DEFRAME_DONE);
         check("readers", &readers, call_read, TRPC_READ_DONE);
         make_frame(MOST_GROUPS + 1);
         check("readers", &readers, call_read, kind == 3 ? TRPC_READ_DONE : TRPC_READ_DEPTH);
         make_record();
+        room = sizeof out;
+        check("writers", &writers, call_write, TRPC_WRITE_DONE);
+        room = written; /* no bound fits: the message is measured first */
         check("writers", &writers, call_write, TRPC_WRITE_DONE);
     }
     check("queue", &jobs, call_init, TRPC_QUEUE_DONE);

@@ -8,29 +8,21 @@ use Rattle.records.specs.Records.{recordOf}
 use Rattle.records.specs.Content.{kindOf, recordId, rowCount}
 
 module _ (id : ℕ) (slots : List ℕ) (rows : ℕ) where
+  made : (k : Kind) → (kindOf (recordOf k id slots rows) ≡ k) × (recordId (recordOf k id slots rows) ≡ id)
+      × (rowCount (recordOf k id slots rows) ≡ rows)
+  unfolding recordOf kindOf recordId rowCount
+  made kinds.Request = (refl, refl, refl)
+  made kinds.Response = (refl, refl, refl)
+  made kinds.Init = (refl, refl, refl)
+  made kinds.Data = (refl, refl, refl)
+  made kinds.Feedback = (refl, refl, refl)
+  made kinds.Close = (refl, refl, refl)
+
   pub kind-is : (k : Kind) → kindOf (recordOf k id slots rows) ≡ k
-  unfolding recordOf kindOf
-  kind-is kinds.Request = refl
-  kind-is kinds.Response = refl
-  kind-is kinds.Init = refl
-  kind-is kinds.Data = refl
-  kind-is kinds.Feedback = refl
-  kind-is kinds.Close = refl
+  kind-is k = made k .0
 
   pub id-is : (k : Kind) → recordId (recordOf k id slots rows) ≡ id
-  unfolding recordOf recordId
-  id-is kinds.Request = refl
-  id-is kinds.Response = refl
-  id-is kinds.Init = refl
-  id-is kinds.Data = refl
-  id-is kinds.Feedback = refl
-  id-is kinds.Close = refl
+  id-is k = made k .1
 
   pub count-is : (k : Kind) → rowCount (recordOf k id slots rows) ≡ rows
-  unfolding recordOf rowCount
-  count-is kinds.Request = refl
-  count-is kinds.Response = refl
-  count-is kinds.Init = refl
-  count-is kinds.Data = refl
-  count-is kinds.Feedback = refl
-  count-is kinds.Close = refl
+  count-is k = made k .2

@@ -11,7 +11,7 @@ use Rattle.schema.specs.Schema.{requestMeta, responseMeta}
 use Rattle.decoder.specs.Rows.{rowsIn}
 use Rattle.writer_checks.specs.Grounds.{spansWithin}
 use Rattle.writer.specs.Straight.{RowsIn, requestMetaLength, responseMetaLength}
-use Rattle.writer.specs.Straight.{MetaIn, SpanIn, sizeBy, smallTags, putRequestPart, putResponsePart, requestMetaOf, responseMetaOf}
+use Rattle.writer.specs.Straight.{MetaIn, SpanIn, sizeBy, smallTags, putRequestPart, putResponsePart, requestMetaBytes, responseMetaBytes}
 use Rattle.writer.proofs.Pieces.{bytes-are, request-meta-length, response-meta-length}
 use Rattle.writer.proofs.Measures.{sized-by}
 
@@ -31,23 +31,23 @@ small = (refl, refl)
 module _ (slots : List ℕ) (count : ℕ) (source numbers : List ℕ) (in-source : RowsIn count source numbers) where
   pub request-whole : MetaIn (length source) slots → (getD slots 0 0 ≡ 0 → ⊥) → (size : ℕ) → size
       ≡ sizeBy (rowsIn count numbers) requestMeta 1 slots
-      → putRequestPart source (rowsIn count numbers) slots ≡ (10 ∷ putVarint size) ++ requestMetaOf source (rowsIn count numbers) slots
+      → putRequestPart source (rowsIn count numbers) slots ≡ (10 ∷ putVarint size) ++ requestMetaBytes source (rowsIn count numbers) slots
   request-whole spans present size is-size =
-      let same : size ≡ length (requestMetaOf source (rowsIn count numbers) slots) = is-size
+      let same : size ≡ length (requestMetaBytes source (rowsIn count numbers) slots) = is-size
       ∙ sym (sized-by source (rowsIn count numbers) slots (in-source .within) requestMeta 1 (small .0)
       (request-within (length source) slots spans)) in
       rw (ne-eqb (getD slots 0 0) 0 present, same) (bytes-are 10 (omega arith) (omega arith)
-      (requestMetaOf source (rowsIn count numbers) slots))
+      (requestMetaBytes source (rowsIn count numbers) slots))
 
   pub response-whole : SpanIn (length source) slots 10 → (getD slots 8 0 ≡ 0 → ⊥) → (size : ℕ) → size
       ≡ sizeBy (rowsIn count numbers) responseMeta 9 slots
-      → putResponsePart source (rowsIn count numbers) slots ≡ (18 ∷ putVarint size) ++ responseMetaOf source (rowsIn count numbers) slots
+      → putResponsePart source (rowsIn count numbers) slots ≡ (18 ∷ putVarint size) ++ responseMetaBytes source (rowsIn count numbers) slots
   response-whole span present size is-size =
-      let same : size ≡ length (responseMetaOf source (rowsIn count numbers) slots) = is-size
+      let same : size ≡ length (responseMetaBytes source (rowsIn count numbers) slots) = is-size
       ∙ sym (sized-by source (rowsIn count numbers) slots (in-source .within) responseMeta 9 (small .1)
       (response-within (length source) slots span)) in
       rw (ne-eqb (getD slots 8 0) 0 present, same) (bytes-are 18 (omega arith) (omega arith)
-      (responseMetaOf source (rowsIn count numbers) slots))
+      (responseMetaBytes source (rowsIn count numbers) slots))
 
   -- how long that is
   pub request-room : MetaIn (length source) slots → (getD slots 0 0 ≡ 0 → ⊥) → (size : ℕ) → size
@@ -58,7 +58,7 @@ module _ (slots : List ℕ) (count : ℕ) (source numbers : List ℕ) (in-source
       omega (
         arith,
         ap length (request-whole spans present size is-size),
-        length-append (10 ∷ putVarint size) (requestMetaOf source (rowsIn count numbers) slots),
+        length-append (10 ∷ putVarint size) (requestMetaBytes source (rowsIn count numbers) slots),
         request-meta-length source (rowsIn count numbers) slots,
       )
 
@@ -69,6 +69,6 @@ module _ (slots : List ℕ) (count : ℕ) (source numbers : List ℕ) (in-source
       omega (
         arith,
         ap length (response-whole span present size is-size),
-        length-append (18 ∷ putVarint size) (responseMetaOf source (rowsIn count numbers) slots),
+        length-append (18 ∷ putVarint size) (responseMetaBytes source (rowsIn count numbers) slots),
         response-meta-length source (rowsIn count numbers) slots,
       )

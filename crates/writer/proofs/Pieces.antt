@@ -14,7 +14,7 @@ use Rattle.decoder.specs.Rows.{Row}
 use Rattle.writer.specs.Encoding.{wide, putNumber, putSome, putEntry, putRows, putFields}
 use Rattle.writer.specs.Straight.{RowIn, tagged, numberAt, signedAt, someAt, putFirst, putNames, putLast, putStatus, putContent}
 use Rattle.writer.specs.Straight.{putReason, closeLength, requestMetaLength, responseMetaLength, initLength}
-use Rattle.writer.specs.Straight.{requestMetaOf, responseMetaOf, putRequestPart, putResponsePart, requestLength, responseLength}
+use Rattle.writer.specs.Straight.{requestMetaBytes, responseMetaBytes, putRequestPart, putResponsePart, requestLength, responseLength}
 
 pub part-length : (source : List ℕ) (at size : ℕ) → at + size ≤ length source → length (partOf source at size) ≡ size
 part-length source at size h = omega (arith, length-take size (drop at source), length-drop at source)
@@ -145,18 +145,18 @@ module _ (source : List ℕ) (rows : List Row) (slots : List ℕ) where
 
   pub request-meta-is : someAt source slots 1 1 ++ (someAt source slots 2 3 ++
       (someAt source slots 3 5 ++ (numberAt slots 4 7 ++ putRows source 5 rows)))
-      ≡ requestMetaOf source rows slots
+      ≡ requestMetaBytes source rows slots
   unfolding putFields
   request-meta-is = simp (append-assoc, append-nil)
 
-  pub request-meta-length : length (requestMetaOf source rows slots) ≡ requestMetaLength source rows slots
+  pub request-meta-length : length (requestMetaBytes source rows slots) ≡ requestMetaLength source rows slots
   request-meta-length = ap length (sym request-meta-is) ∙ simp length-append (omega arith)
 
-  pub response-meta-is : signedAt slots 1 9 ++ someAt source slots 2 10 ≡ responseMetaOf source rows slots
+  pub response-meta-is : signedAt slots 1 9 ++ someAt source slots 2 10 ≡ responseMetaBytes source rows slots
   unfolding putFields
   response-meta-is = simp (append-assoc, append-nil)
 
-  pub response-meta-length : length (responseMetaOf source rows slots) ≡ responseMetaLength source slots
+  pub response-meta-length : length (responseMetaBytes source rows slots) ≡ responseMetaLength source slots
   response-meta-length = ap length (sym response-meta-is) ∙ simp length-append (omega arith)
 
   pub init-is : putRequestPart source rows slots

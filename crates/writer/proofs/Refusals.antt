@@ -17,7 +17,7 @@ use Rattle.records.specs.declared.Record.{Record}
 use Rattle.records.specs.Content.{kindOf, recordId, rowCount, slotsOf}
 use Rattle.writer_checks.specs.Grounds.{contentError}
 use Rattle.writer.specs.Writing.{headerFor, frameOf, sizeError, writeError, Writing, refusedWith, written}
-use Rattle.writer.specs.Straight.{Did, messageIn, frameWith, writtenWith, writtenFrom}
+use Rattle.writer.specs.Straight.{Did, messageIn, frameWith, writtenWith, writtenOf}
 use Rattle.writer.specs.declared.Encoded.the-variants.{Frame, Refused}
 
 frame-length : (kind : Kind) (id : ℕ) (m body : List ℕ) → length (frameWith kind id m body) ≡ 16 + length m + length body
@@ -39,7 +39,7 @@ chained e size good output = by (eqb e 0) refl
 
 -- what is written of a record
 of-record : (r : Record) (source numbers body output : List ℕ)
-    → writtenFrom (kindOf r) (recordId r) (slotsOf r) (rowCount r) source numbers body output ≡ written r source numbers body output
+    → writtenOf (kindOf r) (recordId r) (slotsOf r) (rowCount r) source numbers body output ≡ written r source numbers body output
 unfolding frameOf writeError
 of-record r source numbers body output =
     let m = messageIn (kindOf r) (slotsOf r) (rowCount r) source numbers in
@@ -48,7 +48,7 @@ of-record r source numbers body output =
 
 pub as-record : (r : Record) {kind : Kind} {id : ℕ} {slots : List ℕ} {count : ℕ}
     → kind ≡ kindOf r → id ≡ recordId r → slots ≡ slotsOf r → count ≡ rowCount r → (source numbers body output : List ℕ)
-    → writtenFrom kind id slots count source numbers body output ≡ written r source numbers body output
+    → writtenOf kind id slots count source numbers body output ≡ written r source numbers body output
 as-record r e f g h source numbers body output = rw (e, f, g, h) (of-record r source numbers body output)
 
 -- ---- what is answered
@@ -78,11 +78,11 @@ module _ (kind : Kind) (id : ℕ) (m body output : List ℕ) (e : ℕ) (is-e : e
 module _ (kind : Kind) (id : ℕ) (slots : List ℕ) (count : ℕ) (source numbers body output : List ℕ)
     (e : ℕ) (is-e : e ≡ contentError kind slots count source numbers (length body)) where
   pub refused-content : (e ≡ 0 → ⊥)
-      → (Refused e ≡ writtenFrom kind id slots count source numbers body output .answer)
-      × (output ≡ writtenFrom kind id slots count source numbers body output .output)
+      → (Refused e ≡ writtenOf kind id slots count source numbers body output .answer)
+      × (output ≡ writtenOf kind id slots count source numbers body output .output)
   refused-content h = (rw (← is-e, ne-eqb e 0 h), rw (← is-e, ne-eqb e 0 h))
 
   pub accepted-content : e ≡ 0
       → writtenWith kind id (messageIn kind slots count source numbers) body output
-      ≡ writtenFrom kind id slots count source numbers body output
+      ≡ writtenOf kind id slots count source numbers body output
   accepted-content h = rw (← is-e, h)

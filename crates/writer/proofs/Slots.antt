@@ -18,7 +18,7 @@ use Rattle.writer_checks.specs.Grounds.{spansWithin, allZero, absentOk, bodyOk,
 use Rattle.records.proofs.Made.{kind-is, id-is, count-is}
 use Rattle.writer.specs.Encoding.{putFields}
 use Rattle.writer.specs.Writing.{refusedWith, written}
-use Rattle.writer.specs.Straight.{writtenWith, writtenFrom}
+use Rattle.writer.specs.Straight.{writtenWith, writtenOf}
 use Rattle.writer.proofs.Refusals.{as-record}
 
 mark-kept : (b : Bool) → eqb (mark (not b)) 0 ≡ b
@@ -50,7 +50,7 @@ module _ (id : ℕ) (v : List ℕ) (rows : ℕ) (fits : (i : ℕ) → getD v i 0
       rw (bits-back (getD v 0 0) (fits 0), bits-back (getD v 1 0) (fits 1), bits-back (getD v 5 0) (fits 5))
 
   pub from-slots : (kind : Kind) (source numbers body output : List ℕ)
-      → writtenFrom kind id v rows source numbers body output ≡ written (recordOf kind id v rows) source numbers body output
+      → writtenOf kind id v rows source numbers body output ≡ written (recordOf kind id v rows) source numbers body output
   from-slots kind source numbers body output =
       let r = recordOf kind id v rows in
       ap₂ (λ (e : ℕ) (m : List ℕ). cond (eqb e 0) (writtenWith kind id m body output) (refusedWith e output))

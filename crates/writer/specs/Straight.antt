@@ -192,11 +192,11 @@ closeLength source rows slots =
 abbrev pub MetaIn : (size : ℕ) → (slots : List ℕ) → Type 0
 MetaIn size slots = SpanIn size slots 1 × SpanIn size slots 3 × SpanIn size slots 5
 
-abbrev pub requestMetaOf : (source : List ℕ) → List Row → (slots : List ℕ) → List ℕ
-requestMetaOf source rows slots = putFields source rows requestMeta 1 slots
+abbrev pub requestMetaBytes : (source : List ℕ) → List Row → (slots : List ℕ) → List ℕ
+requestMetaBytes source rows slots = putFields source rows requestMeta 1 slots
 
-abbrev pub responseMetaOf : (source : List ℕ) → List Row → (slots : List ℕ) → List ℕ
-responseMetaOf source rows slots = putFields source rows responseMeta 9 slots
+abbrev pub responseMetaBytes : (source : List ℕ) → List Row → (slots : List ℕ) → List ℕ
+responseMetaBytes source rows slots = putFields source rows responseMeta 9 slots
 
 abbrev pub requestMetaLength : (source : List ℕ) → List Row → (slots : List ℕ) → ℕ
 requestMetaLength source rows slots =
@@ -211,10 +211,10 @@ abbrev pub putPart : (n mark : ℕ) → (content : List ℕ) → List ℕ
 putPart n mark content = cond (eqb mark 0) [] (putBytes n content)
 
 abbrev pub putRequestPart : (source : List ℕ) → List Row → (slots : List ℕ) → List ℕ
-putRequestPart source rows slots = putPart 1 (getD slots 0 0) (requestMetaOf source rows slots)
+putRequestPart source rows slots = putPart 1 (getD slots 0 0) (requestMetaBytes source rows slots)
 
 abbrev pub putResponsePart : (source : List ℕ) → List Row → (slots : List ℕ) → List ℕ
-putResponsePart source rows slots = putPart 2 (getD slots 8 0) (responseMetaOf source rows slots)
+putResponsePart source rows slots = putPart 2 (getD slots 8 0) (responseMetaBytes source rows slots)
 
 abbrev pub initLength : (source : List ℕ) → List Row → (slots : List ℕ) → ℕ
 initLength source rows slots =
@@ -264,8 +264,8 @@ writtenWith kind id m body output =
     (refusedWith (sizeError (16 + length m + length body) (length output)) output)
 
 -- the grounds before these, and then that: what `written` says of a record with this kind, this id, these slots and rows
-abbrev pub writtenFrom : Kind → (id : ℕ) → (slots : List ℕ) → (count : ℕ) → (source numbers body output : List ℕ) → Writing
-writtenFrom kind id slots count source numbers body output =
+abbrev pub writtenOf : Kind → (id : ℕ) → (slots : List ℕ) → (count : ℕ) → (source numbers body output : List ℕ) → Writing
+writtenOf kind id slots count source numbers body output =
     cond (eqb (contentError kind slots count source numbers (length body)) 0)
     (writtenWith kind id (messageIn kind slots count source numbers) body output)
     (refusedWith (contentError kind slots count source numbers (length body)) output)

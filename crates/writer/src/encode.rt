@@ -16,7 +16,7 @@ ghost use Rattle.fixed_header.specs.Header.{maxFrame};
 ghost use Rattle.schema.specs.Kinds.{schemaOf};
 ghost use Rattle.writer_checks.specs.Grounds.{spansWithin};
 ghost use Rattle.writer.specs.Writing.{frameTypeOf, headerSize};
-ghost use Rattle.writer.specs.Straight.{Lent, RowsIn, Did, messageIn, frameWith, writtenWith, writtenFrom};
+ghost use Rattle.writer.specs.Straight.{Lent, RowsIn, Did, messageIn, frameWith, writtenWith, writtenOf};
 
 fn frame_type(kind: Kind) -> FrameType
     ensures { λ r. ⌜ r ≡ frameTypeOf kind ⌝ }
@@ -120,9 +120,9 @@ pub(crate) fn write_values(
     body: &[u8],
     out: &mut [u8],
 ) -> Encoded
-    ensures { λ r. ⌜ (r ≡ writtenFrom kind id (now (n .entry)) count (now (source .entry)) (now (rows .entry)) (now (body .entry))
+    ensures { λ r. ⌜ (r ≡ writtenOf kind id (now (n .entry)) count (now (source .entry)) (now (rows .entry)) (now (body .entry))
         (now (out .entry)) .answer)
-        × (now (out .exit) ≡ writtenFrom kind id (now (n .entry)) count (now (source .entry)) (now (rows .entry)) (now (body .entry))
+        × (now (out .exit) ≡ writtenOf kind id (now (n .entry)) count (now (source .entry)) (now (rows .entry)) (now (body .entry))
         (now (out .entry)) .output) ⌝ }
 {
     let ground = content_error(kind, n, count, source, rows, body.len());

@@ -13,7 +13,7 @@ ghost use Rattle.schema.specs.Schema.{init};
 ghost use Rattle.decoder.specs.Rows.{rowsIn};
 ghost use Rattle.writer.specs.Encoding.{putFields};
 ghost use Rattle.writer.specs.Straight.{Lent, RowsIn};
-ghost use Rattle.writer.specs.Straight.{Did, SpanIn, MetaIn, requestMetaOf, responseMetaOf, requestMetaLength, responseMetaLength};
+ghost use Rattle.writer.specs.Straight.{Did, SpanIn, MetaIn, requestMetaBytes, responseMetaBytes, requestMetaLength, responseMetaLength};
 ghost use Rattle.writer.specs.Straight.{putRequestPart, putResponsePart, initLength};
 
 // The inside of the request part.
@@ -27,7 +27,7 @@ fn put_request_meta(
 ) -> usize
     requires { ⌜ RowsIn count (now source) (now rows) × MetaIn (length (now source)) (now n)
         × (at + requestMetaLength (now source) (rowsIn count (now rows)) (now n) ≤ length (now out)) ⌝ }
-    ensures { λ r. ⌜ Did (requestMetaOf (now (source .entry)) (rowsIn count (now (rows .entry))) (now (n .entry))) (now (out .entry)) at r
+    ensures { λ r. ⌜ Did (requestMetaBytes (now (source .entry)) (rowsIn count (now (rows .entry))) (now (n .entry))) (now (out .entry)) at r
         (now (out .exit)) ⌝ }
 {
     let a = put_some(0x0a, n[1], n[2], source, out, at);
@@ -47,7 +47,7 @@ fn put_response_meta(
     at: usize,
 ) -> usize
     requires { ⌜ SpanIn (length (now source)) (now n) 10 × (at + responseMetaLength (now source) (now n) ≤ length (now out)) ⌝ }
-    ensures { λ r. ⌜ Did (responseMetaOf (now (source .entry)) (rowsIn count (now (rows .entry))) (now (n .entry))) (now (out .entry)) at
+    ensures { λ r. ⌜ Did (responseMetaBytes (now (source .entry)) (rowsIn count (now (rows .entry))) (now (n .entry))) (now (out .entry)) at
         r (now (out .exit)) ⌝ }
 {
     let a = put_signed(0x08, n[9], out, at);

@@ -1,4 +1,5 @@
-// 18: equal keys. Each key has a place, and a mark there once it was seen, so that only keys with the same place are compared.
+// 18: equal keys. Two are compared. Of more, each key has a place, and a mark there once it was seen, so that only keys with the
+// same place are compared.
 use crate::fields::wide;
 use decoder::find_key;
 ghost use mathlib.Core.Path.{_≡_};

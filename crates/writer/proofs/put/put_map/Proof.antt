@@ -6,10 +6,9 @@ use Rattle.writer.proofs.RowLoop.{put-rows-all}
 use Rattle.writer.proofs.put.put_map.Statement.{statement}
 use Rattle.writer.proofs.put.put_map.Tie as tie
 
-returns : tie.Need-returns
-returns c =
-    let args = c .before .before .before .before .args in
-    put-rows-all (args .count) (args .rows .now) 0 _ (args .source .now) (starts _ _ _) (omega arith)
-
 pub put-map-spec : {M : Type 1} → statement M
-put-map-spec = tie.close (tie.spec returns (λ c κs. search needs) (λ c. search needs) (λ c. search needs))
+put-map-spec =
+    tie.close
+    (tie.spec
+    (λ c. let count = c .before .before .before .before .args .count in put-rows-all count _ 0 _ _ (starts _ _ _) (omega arith))
+    (λ c κs. search needs) (λ c. search needs) (λ c. search needs))
