@@ -17,7 +17,4 @@ keys-differ-spec =
     tie.close
     (tie.spec
     (λ c. let count = c .before .before .before .args .count in few-differ _ count _ (omega arith))
-    (λ c κs. search needs)
-    returns-2
-    (λ c κs. search needs)
-    (λ c. search needs))
+    (λ c κs. search needs) returns-2 (λ c κs. search needs) (λ c. search needs))
