@@ -1,6 +1,6 @@
 -- Numbers copied one by one, and what a copy comes to at its end
 use Prim.Native.Nat.{ℕ, suc, _+_, _<_}
-use mathlib.Core.Path.{_≡_, sym, ap, subst, _∙_}
+use mathlib.Core.Path.{_≡_, refl, sym, ap, subst, _∙_}
 use mathlib.Core.List.{List, _++_, append-nil}
 use native.Mathlib.Omega.{arith}
 use native.Mathlib.Numerals.{add-one}
@@ -15,16 +15,14 @@ copied d at s i k e room more =
     ∙ ap (paste d at s) (sym (add-one i))
 
 -- all fields after the first eight numbers
-pub fields-copied : (numbers fields : List ℕ) → length numbers ≡ 24 → length fields ≡ 16
-    → paste numbers 8 fields 16 ≡ take 8 numbers ++ fields
-fields-copied numbers fields e g =
+pub fields-copied : (numbers fields : List ℕ) → length fields ≡ 16 → paste numbers 8 fields 16 ≡ take 8 numbers ++ fields ++ drop 24 numbers
+fields-copied numbers fields g =
     let all = take-all 16 fields (omega arith) in
-    let none = drop-of-length-le numbers {i = 24} (omega arith) in
-    rw (all, none) (append-nil (take 8 numbers ++ fields))
+    rw all refl
 
--- the fields of a record's 24 numbers
-pub fields-length : (l : List ℕ) → length l ≡ 24 → length (drop 8 l) ≡ 16
+-- the fields of a record's 25 numbers
+pub fields-length : (l : List ℕ) → length l ≡ 25 → length (drop 8 l) ≡ 17
 fields-length l e = omega (arith, length-drop 8 l)
 
-pub fields-all : (l : List ℕ) → length l ≡ 24 → paste (replicate 16 0) 0 (drop 8 l) 16 ≡ drop 8 l
-fields-all l e = rw (take-all 16 (drop 8 l) (omega (arith, fields-length l e))) (append-nil (drop 8 l))
+pub fields-all : (l : List ℕ) → paste (replicate 16 0) 0 (drop 8 l) 16 ≡ take 16 (drop 8 l)
+fields-all l = append-nil (take 16 (drop 8 l))

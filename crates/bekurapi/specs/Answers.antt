@@ -26,7 +26,7 @@ typeNumber types.Data = 2
 typeNumber types.Feedback = 3
 typeNumber types.Close = 4
 
--- A header says type, sizes and id, or it is refused.
+-- A header says type, sizes, id and version, or it is refused.
 abbrev pub parsedError : Parsed → ℕ
 parsedError (headers.Good h) = 0
 parsedError (headers.Refused code) = code
@@ -34,15 +34,16 @@ parsedError (headers.Refused code) = code
 -- what a good one says; of a refused one all is zero
 abbrev pub headerGiven : Parsed → FixedHeader
 headerGiven (headers.Good h) = h
-headerGiven (headers.Refused code) = record { «frame_type» = types.Unary; total = 0; «header_size» = 0; id = 0 }
+headerGiven (headers.Refused code) = record { «frame_type» = types.Unary; total = 0; «header_size» = 0; id = 0; version = 0 }
 
--- so a call of `trpc_header_parse` gave the number that is returned and the four that it hands out
-pub record ParsedAs (bytes : List ℕ) (code frame-type total header-size id : ℕ) : Type 0 where
+-- so a call of `trpc_header_parse` gave the number that is returned and the five that it hands out
+pub record ParsedAs (bytes : List ℕ) (code frame-type total header-size id version : ℕ) : Type 0 where
   pub code-is : code ≡ parsedError (parsed bytes)
   pub type-is : frame-type ≡ typeNumber (headerGiven (parsed bytes) .«frame_type»)
   pub total-is : total ≡ headerGiven (parsed bytes) .total
   pub header-size-is : header-size ≡ headerGiven (parsed bytes) .«header_size»
   pub id-is : id ≡ headerGiven (parsed bytes) .id
+  pub version-is : version ≡ headerGiven (parsed bytes) .version
 
 -- "The state is a count of held bytes and a refusal number (0 for none)."
 abbrev pub deframerOf : (held error : ℕ) → Deframer

@@ -11,13 +11,13 @@ use Rattle.bekurapi.specs.Answers.{answerError}
 use Rattle.bekurapi.specs.Numbers.{numbersOf, recordFrom}
 
 -- "the caller of the reader names which of the six kinds it expects": a frame, read as a kind with the row numbers lent, gave the number
--- that is returned, the row numbers and the 24 numbers of the record.
+-- that is returned, the row numbers and the 25 numbers of the record.
 pub record ReadAs (kind : Kind) (frame lent : List ℕ) (code : ℕ) (rows numbers : List ℕ) : Type 0 where
   pub code-is : code ≡ answerError (readFrame kind frame lent .answer)
   pub rows-are : rows ≡ readFrame kind frame lent .rows
   pub numbers-are : numbers ≡ numbersOf (spansOf (readFrame kind frame lent) (length frame))
 
--- what writing the record of a kind gives that is lent as 24 numbers
+-- what writing the record of a kind gives that is lent as 25 numbers
 abbrev pub writtenFrom : Kind → (numbers : List ℕ) → (source rows body output : List ℕ) → Writing
 writtenFrom kind numbers source rows body output = written (recordFrom kind numbers) source rows body output
 

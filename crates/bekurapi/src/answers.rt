@@ -44,6 +44,7 @@ pub(crate) fn header_in(parsed: Parsed) -> FixedHeader
             total: 0,
             header_size: 0,
             id: 0,
+            version: 0,
         },
     }
 }

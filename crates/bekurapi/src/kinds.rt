@@ -4,12 +4,13 @@ use crate::answers::encoded_error;
 use crate::answers::encoded_size;
 use crate::numbers::fields_of;
 use crate::numbers::numbers_of;
+use crate::numbers::version_of;
 use message::read_spans;
 use schema::Kind;
 use writer::write_slots;
 ghost use Rattle.bekurapi.specs.Kinds.{ReadAs, WrittenAs};
 
-pub(crate) fn read_as(kind: Kind, frame: &[u8], rows: &mut [u32], record: &mut [u32; 24]) -> u32
+pub(crate) fn read_as(kind: Kind, frame: &[u8], rows: &mut [u32], record: &mut [u32; 25]) -> u32
     ensures { λ r. ⌜ ReadAs kind (now (frame .entry)) (now (rows .entry)) r (now (rows .exit)) (now («record» .exit)) ⌝ }
 {
     let reading = read_spans(kind, frame, rows);
@@ -20,7 +21,7 @@ pub(crate) fn read_as(kind: Kind, frame: &[u8], rows: &mut [u32], record: &mut [
 
 pub(crate) fn write_as(
     kind: Kind,
-    record: &[u32; 24],
+    record: &[u32; 25],
     source: &[u8],
     rows: &[u32],
     body: &[u8],
@@ -35,6 +36,7 @@ pub(crate) fn write_as(
     let encoded = write_slots(
         kind,
         numbers[0],
+        version_of(numbers[24]),
         fields,
         numbers[1],
         source,

@@ -26,7 +26,7 @@ ghost use Rattle.schema.specs.declared.Kind.the-variants as kinds;
 ghost use Rattle.bekurapi.specs.Answers.{ParsedAs, deframerOf, DeframedAs, endError, endShort};
 ghost use Rattle.bekurapi.specs.Kinds.{ReadAs, WrittenAs};
 
-// The error code of a fixed header: 0 where it is good, 9 where it is not 16 bytes, else 3 to 8.
+// The error code of a fixed header: 0 where it is good, 9 where it is not 16 bytes, else 3 to 7.
 #[no_mangle]
 pub extern "C" fn trpc_header_check(bytes: &[u8]) -> u32
     ensures { λ r. ⌜ r ≡ headerError (now (bytes .entry)) ⌝ }
@@ -43,9 +43,11 @@ pub extern "C" fn trpc_header_parse(
     total: &mut usize,
     header_size: &mut usize,
     id: &mut u32,
+    header_version: &mut u32,
 ) -> u32
     ensures { λ r. ⌜ ParsedAs (now (bytes .entry))
-        r (now («frame_type» .exit)) (now (total .exit)) (now («header_size» .exit)) (now (id .exit)) ⌝ }
+        r (now («frame_type» .exit)) (now (total .exit)) (now («header_size» .exit)) (now (id .exit))
+        (now («header_version» .exit)) ⌝ }
 {
     let answer = parse_header(bytes);
     let header = header_in(answer);
@@ -54,6 +56,7 @@ pub extern "C" fn trpc_header_parse(
     *total = header.total;
     *header_size = header.header_size;
     *id = header.id;
+    *header_version = header.version as u32;
     parsed_error(answer)
 }
 
@@ -96,57 +99,57 @@ pub extern "C" fn trpc_finish(held: usize, error: u32, buffer: &[u8], short_by: 
     end_error(end)
 }
 
-// ---- The six readers: each reads a frame as its kind. It answers the error code, and leaves the row numbers and the 24 numbers of the
+// ---- The six readers: each reads a frame as its kind. It answers the error code, and leaves the row numbers and the 25 numbers of the
 // record and its frame's parts.
 
 #[no_mangle]
-pub extern "C" fn trpc_read_request(frame: &[u8], rows: &mut [u32], record: &mut [u32; 24]) -> u32
+pub extern "C" fn trpc_read_request(frame: &[u8], rows: &mut [u32], record: &mut [u32; 25]) -> u32
     ensures { λ r. ⌜ ReadAs kinds.Request (now (frame .entry)) (now (rows .entry)) r (now (rows .exit)) (now («record» .exit)) ⌝ }
 {
     read_as(Kind::Request, frame, rows, record)
 }
 
 #[no_mangle]
-pub extern "C" fn trpc_read_response(frame: &[u8], rows: &mut [u32], record: &mut [u32; 24]) -> u32
+pub extern "C" fn trpc_read_response(frame: &[u8], rows: &mut [u32], record: &mut [u32; 25]) -> u32
     ensures { λ r. ⌜ ReadAs kinds.Response (now (frame .entry)) (now (rows .entry)) r (now (rows .exit)) (now («record» .exit)) ⌝ }
 {
     read_as(Kind::Response, frame, rows, record)
 }
 
 #[no_mangle]
-pub extern "C" fn trpc_read_init(frame: &[u8], rows: &mut [u32], record: &mut [u32; 24]) -> u32
+pub extern "C" fn trpc_read_init(frame: &[u8], rows: &mut [u32], record: &mut [u32; 25]) -> u32
     ensures { λ r. ⌜ ReadAs kinds.Init (now (frame .entry)) (now (rows .entry)) r (now (rows .exit)) (now («record» .exit)) ⌝ }
 {
     read_as(Kind::Init, frame, rows, record)
 }
 
 #[no_mangle]
-pub extern "C" fn trpc_read_data(frame: &[u8], rows: &mut [u32], record: &mut [u32; 24]) -> u32
+pub extern "C" fn trpc_read_data(frame: &[u8], rows: &mut [u32], record: &mut [u32; 25]) -> u32
     ensures { λ r. ⌜ ReadAs kinds.Data (now (frame .entry)) (now (rows .entry)) r (now (rows .exit)) (now («record» .exit)) ⌝ }
 {
     read_as(Kind::Data, frame, rows, record)
 }
 
 #[no_mangle]
-pub extern "C" fn trpc_read_feedback(frame: &[u8], rows: &mut [u32], record: &mut [u32; 24]) -> u32
+pub extern "C" fn trpc_read_feedback(frame: &[u8], rows: &mut [u32], record: &mut [u32; 25]) -> u32
     ensures { λ r. ⌜ ReadAs kinds.Feedback (now (frame .entry)) (now (rows .entry)) r (now (rows .exit)) (now («record» .exit)) ⌝ }
 {
     read_as(Kind::Feedback, frame, rows, record)
 }
 
 #[no_mangle]
-pub extern "C" fn trpc_read_close(frame: &[u8], rows: &mut [u32], record: &mut [u32; 24]) -> u32
+pub extern "C" fn trpc_read_close(frame: &[u8], rows: &mut [u32], record: &mut [u32; 25]) -> u32
     ensures { λ r. ⌜ ReadAs kinds.Close (now (frame .entry)) (now (rows .entry)) r (now (rows .exit)) (now («record» .exit)) ⌝ }
 {
     read_as(Kind::Close, frame, rows, record)
 }
 
-// ---- The six writers: each writes the frame of a record of its kind, given as 24 numbers, to the start of `out`. It answers the error
+// ---- The six writers: each writes the frame of a record of its kind, given as 25 numbers, to the start of `out`. It answers the error
 // code; `size` is the frame's, 0 after a refusal.
 
 #[no_mangle]
 pub extern "C" fn trpc_write_request(
-    record: &[u32; 24],
+    record: &[u32; 25],
     source: &[u8],
     rows: &[u32],
     body: &[u8],
@@ -161,7 +164,7 @@ pub extern "C" fn trpc_write_request(
 
 #[no_mangle]
 pub extern "C" fn trpc_write_response(
-    record: &[u32; 24],
+    record: &[u32; 25],
     source: &[u8],
     rows: &[u32],
     body: &[u8],
@@ -176,7 +179,7 @@ pub extern "C" fn trpc_write_response(
 
 #[no_mangle]
 pub extern "C" fn trpc_write_init(
-    record: &[u32; 24],
+    record: &[u32; 25],
     source: &[u8],
     rows: &[u32],
     body: &[u8],
@@ -191,7 +194,7 @@ pub extern "C" fn trpc_write_init(
 
 #[no_mangle]
 pub extern "C" fn trpc_write_data(
-    record: &[u32; 24],
+    record: &[u32; 25],
     source: &[u8],
     rows: &[u32],
     body: &[u8],
@@ -206,7 +209,7 @@ pub extern "C" fn trpc_write_data(
 
 #[no_mangle]
 pub extern "C" fn trpc_write_feedback(
-    record: &[u32; 24],
+    record: &[u32; 25],
     source: &[u8],
     rows: &[u32],
     body: &[u8],
@@ -221,7 +224,7 @@ pub extern "C" fn trpc_write_feedback(
 
 #[no_mangle]
 pub extern "C" fn trpc_write_close(
-    record: &[u32; 24],
+    record: &[u32; 25],
     source: &[u8],
     rows: &[u32],
     body: &[u8],

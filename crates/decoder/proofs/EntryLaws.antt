@@ -37,7 +37,7 @@ entry-taken frame read at x e n size h = rw (← h) (by (eqb 1 n) (eqb 2 n))
     by false true = refl
     by false false = refl
 
-entry-number : (n v : ℕ) (st : State) → setNumber (look entry 0 n) v st ≡ st
+pub entry-number : (n v : ℕ) (st : State) → setNumber (look entry 0 n) v st ≡ st
 unfolding look setNumber
 entry-number n v st = by (eqb 1 n) (eqb 2 n)
   where

@@ -4,6 +4,7 @@ pub mod RowLaws
 pub mod Results
 pub mod ReadingSteps
 pub mod SlotChanges
+pub mod BytesSeen
 pub mod PartEnds
 pub mod Answers
 -- For the proofs of this crate's functions.

@@ -107,6 +107,15 @@ number-only anEntry v st = only-none (st .slots) 0 0
 number-only (aMessage slot inner) v st = only-none (st .slots) slot (slot + 1 + width inner)
 number-only unknown v st = only-none (st .slots) 0 0
 
+-- and a number changes no row
+pub number-rows : (t : Target) (v : ℕ) (st : State) → setNumber t v st .rows ≡ st .rows
+unfolding setNumber setSlot
+number-rows (aNumber slot) v st = refl
+number-rows (someBytes slot) v st = refl
+number-rows anEntry v st = refl
+number-rows (aMessage slot inner) v st = refl
+number-rows unknown v st = refl
+
 -- a field's slots are its schema's
 pub only-field : (t : Target) (lo hi : ℕ) (a b : List ℕ) → Within lo hi t → Only (low t) (high t) a b → Only lo hi a b
 only-field (aNumber slot) lo hi a b w p = only-wider slot (slot + 1) lo hi a b (w .0) (w .1) p

@@ -6,7 +6,7 @@ use mathlib.Core.Bool.{Bool, true, false, _&&_}
 use mathlib.Core.List.{List}
 use native.Mathlib.Omega.{arith}
 use native.Mathlib.Decide.{decLt, ℕ-discrete}
-use borrow.Author.Tests.{lt-ltb, le-ltb, le-leb, eq-eqb, ne-eqb, eqb-true, ltb-true}
+use borrow.Author.Tests.{lt-ltb, le-ltb, le-leb, lt-leb, eq-eqb, ne-eqb, eqb-true, ltb-true}
 use lib.Dec.{eqb, ltb, leb}
 use lib.ListN.{length, take}
 use Rattle.fixed_header.specs.Header.{maxFrame, headerError, totalOf, faultOf}
@@ -46,6 +46,15 @@ module _ (st : Deframer) (d : List ℕ) where
     unfolding knownOf
     unknown-held h = simp (ne-eqb _ _ some, ne-eqb _ _ h)
 
+    -- "a state that holds 8 is not known" (document 02, P2): 8 is no number from 3 to 7
+    pub unknown-past : 7 < st .error → knownOf st d ≡ false
+    unfolding knownOf
+    unknown-past h = simp (ne-eqb _ _ some, lt-leb _ _ h, never)
+      where
+        never : (b : Bool) → b && false ≡ false
+        never true = refl
+        never false = refl
+
     pub known-bad : knownOf st d ≡ true → (st .held ≡ 16) × (headerError (take 16 d) ≡ st .error)
     unfolding knownOf
     known-bad k =
@@ -53,18 +62,18 @@ module _ (st : Deframer) (d : List ℕ) where
         let b = both (eqb (headerError (take 16 d)) (st .error)) _ (a .1) in
         (eqb-true _ _ (a .0), eqb-true _ _ (b .0))
 
-    -- that the number is from 3 to 8 follows, since the 16 bytes give it
+    -- that the number is from 3 to 7 follows, since the 16 bytes give it
     pub known-code : 16 ≤ length d → st .held ≡ 16 → knownOf st d ≡ eqb (headerError (take 16 d)) (st .error)
     unfolding knownOf
     known-code l h = simp (ne-eqb _ _ some, eq-eqb _ _ h) (by (eqb (headerError (take 16 d)) (st .error)) refl)
       where
-        range : headerError (take 16 d) ≡ st .error → Code (faultOf (take 16 d)) → (3 ≤ st .error) × (st .error ≤ 8)
+        range : headerError (take 16 d) ≡ st .error → Code (faultOf (take 16 d)) → (3 ≤ st .error) × (st .error ≤ 7)
         range e (inl z) = absurd (some (sym e ∙ first-sixteen d l ∙ z))
         range e (inr r) =
             let f : faultOf (take 16 d) ≡ st .error = sym (first-sixteen d l) ∙ e in
             (omega arith, omega arith)
 
-        by : (b : Bool) → eqb (headerError (take 16 d)) (st .error) ≡ b → b && (leb 3 (st .error) && leb (st .error) 8) ≡ b
+        by : (b : Bool) → eqb (headerError (take 16 d)) (st .error) ≡ b → b && (leb 3 (st .error) && leb (st .error) 7) ≡ b
         by true e =
             let r = range (eqb-true _ _ e) (fault-code (take 16 d)) in
             simp (le-leb _ _ (r .0), le-leb _ _ (r .1))

@@ -4,5 +4,8 @@ pub mod Known
 pub mod Advance
 pub mod Taken
 pub mod Uncut
+-- Document 02, P2
+pub mod Eight
+pub mod LastTwoCut
 -- Demand 1, of every public entry
 pub mod AsksNothing

@@ -18,13 +18,14 @@ abbrev pub fresh : Deframer
 fresh = record { held = 0; error = 0 }
 
 -- "A state is known if it holds under 16 bytes with number 0; or holds 16 or more with number 0, its first 16 judge good and their
--- total exceeds the count; or holds exactly 16 that judge to its number, from 3 to 8."
+-- total exceeds the count; or holds exactly 16 that judge to its number, from 3 to 8", of which document 02 takes out 8: "a state that
+-- holds 8 is not known"
 unfoldable pub knownOf : Deframer → List ℕ → Bool
 knownOf state buffer =
     cond (eqb (state .error) 0)
     (cond (ltb (state .held) 16) true
     (eqb (headerError (take 16 buffer)) 0 && ltb (state .held) (totalOf (take 16 buffer))))
-    (eqb (state .held) 16 && (eqb (headerError (take 16 buffer)) (state .error) && (leb 3 (state .error) && leb (state .error) 8)))
+    (eqb (state .held) 16 && (eqb (headerError (take 16 buffer)) (state .error) && (leb 3 (state .error) && leb (state .error) 7)))
 
 -- "behind those held": the stream that a call sees
 abbrev pub stream : ℕ → List ℕ → List ℕ → List ℕ
@@ -81,7 +82,7 @@ refuse code state = record { progress = Refused code; next = state; taken = 0 }
 abbrev pub unmoved : ℕ → Deframer → List ℕ → Out
 unmoved code state buffer = record { step = refuse code state; buffer = buffer }
 
--- "Cutter 1, 2, a held refusal, then 3 to 8 rising."
+-- "Cutter 1, 2, a held refusal, then 3 to 8 rising", without 8
 unfoldable pub deframed : Deframer → List ℕ → List ℕ → Out
 deframed state buffer piece =
     cond (ltb (length buffer) maxFrame) (unmoved 1 state buffer)

@@ -63,6 +63,7 @@ fn print_last(error: u32) {
 fn answer(job: Job) {
     let response = Record::Response(Response {
         id: job.request,
+        header_version: 0,
         version: 0,
         call_type: 0,
         request_id: job.request,

@@ -1,8 +1,8 @@
 // A small controller, as examples/controller.c is one in C and bindings/rust/examples/controller.rs one in Rust, and it prints
-// the same. A client's stream arrives in pieces of odd sizes; the frames are cut from it, the requests are read, and a job is
+// the same. A gateway's stream arrives in pieces of odd sizes; the frames are cut from it, the requests are read, and a job is
 // queued for each. Then the jobs are taken, the one that is due first before the others, and each is answered with a response.
 mod answers;
-mod client;
+mod gateway;
 mod print;
 mod requests;
 
@@ -11,7 +11,7 @@ use deframer::Progress;
 use print::part;
 use queue::Queue;
 
-// Room for the client's stream.
+// Room for the gateway's stream.
 const STREAM: usize = 1024;
 
 // The deframer's state, and the jobs that wait.
@@ -22,7 +22,7 @@ struct Controller {
 
 fn main() {
     let mut stream = [0u8; 1024];
-    let length = client::write_stream(&mut stream);
+    let length = gateway::write_stream(&mut stream);
     let mut buffer = io::large_buffer();
     let mut rows = [0u32; 256];
     let fresh = Controller {
@@ -45,7 +45,11 @@ fn receive(
     let sent = part(stream, 0, length);
     let mut c = controller;
     for now in 0..STREAM {
-        let piece = part(sent, client::piece_start(now), client::piece_start(now + 1));
+        let piece = part(
+            sent,
+            gateway::piece_start(now),
+            gateway::piece_start(now + 1),
+        );
         if piece.len() == 0 {
             break;
         }

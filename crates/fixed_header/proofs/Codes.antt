@@ -12,7 +12,7 @@ use lib.Seq.{length-take-le}
 use Rattle.laws.proofs.Booleans.{kept, both}
 use Rattle.fixed_header.specs.Header.{maxFrame, totalOf, headerSizeOf, headerError, declaredSize}
 use Rattle.fixed_header.specs.Header.{magicOk, dataTypeOk, streamTypeOk, totalOk, headerSizeOk}
-use Rattle.fixed_header.specs.Header.{reservedOk, typeFault, faultOf}
+use Rattle.fixed_header.specs.Header.{typeFault, faultOf}
 
 -- 16 bytes are judged by the rules only
 pub sixteen : (h : List ℕ) → length h ≡ 16 → headerError h ≡ faultOf h
@@ -34,11 +34,11 @@ good-total h e =
     let g = both (leb 16 (totalOf h)) (leb (totalOf h) maxFrame) (f .0) in
     (leb-true _ _ (g .0), leb-true _ _ (g .1))
 
--- the code of 16 bytes is 0, or 3 to 8
+-- the code of 16 bytes is 0, or 3 to 7
 abbrev pub Code : ℕ → Type 0
-Code n = (n ≡ 0) ⊎ ((3 ≤ n) × (n ≤ 8))
+Code n = (n ≡ 0) ⊎ ((3 ≤ n) × (n ≤ 7))
 
-rule : (ok : Bool) (code : ℕ) {later : ℕ} → 3 ≤ code → code ≤ 8 → Code later → Code (cond ok later code)
+rule : (ok : Bool) (code : ℕ) {later : ℕ} → 3 ≤ code → code ≤ 7 → Code later → Code (cond ok later code)
 rule true code l u p = p
 rule false code l u p = inr (l, u)
 
@@ -50,8 +50,7 @@ fault-code h =
     (rule (streamTypeOk (getD h 2 0) (getD h 3 0)) 5 (omega arith) (omega arith)
     (rule (totalOk (totalOf h)) 6 (omega arith) (omega arith)
     (rule (headerSizeOk (getD h 2 0) (totalOf h) (headerSizeOf h)) 7 (omega arith) (omega arith)
-    (rule (reservedOk (getD h 14 0) (getD h 15 0)) 8 (omega arith) (omega arith)
-    (inl refl))))))
+    (inl refl)))))
 
 -- a good header has 16 bytes
 pub good-length : (h : List ℕ) → headerError h ≡ 0 → length h ≡ 16

@@ -2,5 +2,6 @@
 pub mod Digits
 pub mod Codes
 pub mod RoundTrip
+pub mod LastTwo
 -- Demand 1, of every public entry
 pub mod AsksNothing

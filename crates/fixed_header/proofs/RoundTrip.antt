@@ -1,6 +1,7 @@
 -- The round trip of the 16 bytes.
 --
--- Promised: a header that keeps the rules of document 01 and whose id is of 32 bits is written as 16 bytes that are read as that header.
+-- Promised: a header that keeps the rules of document 01, with an id of 32 bits and a version of 8, is written as 16 bytes that are read
+-- as that header.
 -- Not promised: anything of another header. It is written by the low 32 bits of its total and the low 16 of its header size, so the bytes
 -- may be those of a header that keeps the rules.
 -- Ruled out: two headers that keep the rules and have the same 16 bytes.
@@ -12,8 +13,8 @@ use native.Mathlib.Omega.{arith}
 use borrow.Author.Tests.{leb-true, eqb-true, eq-eqb}
 use lib.Dec.{eqb, leb}
 use lib.ListN.{length, getD}
-use Rattle.fixed_header.specs.Header.{maxFrame, be16Of, be32Of, totalOf, headerSizeOf, idOf, typeOf, headerIn, parsed}
-use Rattle.fixed_header.specs.Header.{magicOk, dataTypeOk, streamTypeOk, totalOk, headerSizeOk, reservedOk, faultOf, headerError}
+use Rattle.fixed_header.specs.Header.{maxFrame, be16Of, be32Of, totalOf, headerSizeOf, idOf, versionOf, typeOf, headerIn, parsed}
+use Rattle.fixed_header.specs.Header.{magicOk, dataTypeOk, streamTypeOk, totalOk, headerSizeOk, faultOf, headerError}
 use Rattle.fixed_header.specs.Put.{dataType, streamType, fixedHeader, Keeps}
 use Rattle.fixed_header.specs.declared.FixedHeader.{FixedHeader}
 use Rattle.fixed_header.specs.declared.FrameType.{FrameType}
@@ -80,9 +81,13 @@ module _ (h : FixedHeader) (k : Keeps h) where
     unfolding fixedHeader idOf be32Of be16Of
     id-back = thirty-two-bits (h .id) (k .id-small)
 
+    pub version-back : versionOf (fixedHeader h ++ rest) ≡ h .version
+    unfolding fixedHeader versionOf
+    version-back = omega (arith, k .version-small)
+
   -- ---- it is good
   pub header-good : headerError (fixedHeader h) ≡ 0
-  unfolding fixedHeader faultOf magicOk reservedOk
+  unfolding fixedHeader faultOf magicOk
   header-good =
       let total-is : totalOf (fixedHeader h) ≡ h .total = total-back [] in
       let size-is : headerSizeOf (fixedHeader h) ≡ h .«header_size» = size-back [] in
@@ -96,6 +101,6 @@ module _ (h : FixedHeader) (k : Keeps h) where
 
   -- ---- the theorem
   pub header-back : parsed (fixedHeader h) ≡ Good h
-  unfolding parsed fixedHeader
+  unfolding parsed fixedHeader versionOf
   header-back =
-      rw (eq-eqb _ _ header-good, total-back [], size-back [], id-back [], type-back (h .«frame_type»))
+      rw (eq-eqb _ _ header-good, total-back [], size-back [], id-back [], version-back [], type-back (h .«frame_type»))

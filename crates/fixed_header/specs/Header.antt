@@ -1,5 +1,5 @@
 -- Document 01, "The 16 bytes": what a fixed header says, and the error code (document 01: refusal number) of a bad one
-use Prim.Native.Nat.{ℕ, _+_, _-_, _*_}
+use Prim.Native.Nat.{ℕ, _+_, _-_, _*_, _%_}
 use mathlib.Core.List.{List}
 use mathlib.Core.Bool.{Bool, cond, _&&_, _||_}
 use lib.Dec.{eqb, ltb, leb}
@@ -55,26 +55,26 @@ totalOk total = leb 16 total && leb total maxFrame
 unfoldable pub headerSizeOk : ℕ → ℕ → ℕ → Bool
 headerSizeOk data-type total size = cond (eqb data-type 0) (leb size (total - 16)) (eqb size 0)
 
--- "reserved | both 0"
-unfoldable pub reservedOk : ℕ → ℕ → Bool
-reservedOk first second = eqb first 0 && eqb second 0
+-- Document 02, P2: "Source document 002 calls byte 15 the protocol version and only byte 16 reserved"; "Readers accept all versions and
+-- ignore byte 16." So no rule is about these two bytes. Of a byte the remainder is the byte (`version-is-byte-15`)
+unfoldable pub versionOf : List ℕ → ℕ
+versionOf h = getD h 14 0 % 256
 
--- "3-8 | header judge | magic; data type; stream type; total; header size; reserved": the first that is broken, 0 for none. A part of the
--- chain has what the later rules say as its last argument.
+-- "3-8 | header judge | magic; data type; stream type; total; header size; reserved", of which document 02 takes out 8: the first that is
+-- broken, 0 for none. The types have what the later rules say as their last argument.
 abbrev pub typeFault : (first second data-type stream-type later : ℕ) → ℕ
 typeFault first second data-type stream-type later =
     unless (magicOk first second) 3 (unless (dataTypeOk data-type) 4 (unless (streamTypeOk data-type stream-type) 5 later))
 
-abbrev pub sizeFault : (data-type total size later : ℕ) → ℕ
-sizeFault data-type total size later = unless (totalOk total) 6 (unless (headerSizeOk data-type total size) 7 later)
+abbrev pub sizeFault : (data-type total size : ℕ) → ℕ
+sizeFault data-type total size = unless (totalOk total) 6 (unless (headerSizeOk data-type total size) 7 0)
 
 unfoldable pub faultOf : List ℕ → ℕ
 faultOf h =
     typeFault (getD h 0 0) (getD h 1 0) (getD h 2 0) (getD h 3 0)
-    (sizeFault (getD h 2 0) (totalOf h) (headerSizeOf h)
-    (unless (reservedOk (getD h 14 0) (getD h 15 0)) 8 0))
+    (sizeFault (getD h 2 0) (totalOf h) (headerSizeOf h))
 
--- Document 01's judge of a fixed header. "Order: judge 9, then 3 to 8"; "9 | length isn't the total (judge: not 16)"
+-- Document 01's judge of a fixed header. "Order: judge 9, then 3 to 8", without 8; "9 | length isn't the total (judge: not 16)"
 unfoldable pub headerError : List ℕ → ℕ
 headerError h = unless (eqb (length h) 16) 9 (faultOf h)
 
@@ -89,7 +89,14 @@ typeOf data-type stream-type =
 
 -- what 16 bytes say
 abbrev pub headerIn : List ℕ → FixedHeader
-headerIn h = record { «frame_type» = typeOf (getD h 2 0) (getD h 3 0); total = totalOf h; «header_size» = headerSizeOf h; id = idOf h }
+headerIn h =
+    record {
+      «frame_type» = typeOf (getD h 2 0) (getD h 3 0);
+      total = totalOf h;
+      «header_size» = headerSizeOf h;
+      id = idOf h;
+      version = versionOf h;
+    }
 
 -- what a good header says, and of a bad one its error code
 unfoldable pub parsed : List ℕ → Parsed

@@ -34,17 +34,19 @@ streamType Data = 2
 streamType Feedback = 3
 streamType Close = 4
 
--- "magic 09 30"; "reserved | both 0"
+-- "magic 09 30". Document 02, P2: "the writer writes the version given and 0 in byte 16". Of a version of 8 bits the remainder is the
+-- version (`version-back` in proofs/RoundTrip)
 unfoldable pub fixedHeader : FixedHeader → List ℕ
 fixedHeader h =
     0x09 ∷ 0x30 ∷ dataType (h .«frame_type») ∷ streamType (h .«frame_type»)
-    ∷ put32 (h .total) ++ put16 (h .«header_size») ++ put32 (h .id) ++ 0 ∷ 0 ∷ []
+    ∷ put32 (h .total) ++ put16 (h .«header_size») ++ put32 (h .id) ++ (h .version % 256) ∷ 0 ∷ []
 
--- a header that keeps the rules of document 01, with an id of 32 bits
+-- a header that keeps the rules of document 01, with an id of 32 bits and a version of 8
 pub record Keeps (h : FixedHeader) : Type 0 where
   pub total-good : totalOk (h .total) ≡ true
   pub size-good : headerSizeOk (dataType (h .«frame_type»)) (h .total) (h .«header_size») ≡ true
   pub id-small : h .id < 2 ^ 32
+  pub version-small : h .version < 2 ^ 8
 
 -- how many bytes were put, and the output afterwards
 pub record Output : Type 0 where

@@ -6,15 +6,13 @@ use crate::MAX_FRAME;
 use refusals::BAD_DATA_TYPE;
 use refusals::BAD_HEADER_SIZE;
 use refusals::BAD_MAGIC;
-use refusals::BAD_RESERVED;
 use refusals::BAD_STREAM_TYPE;
 use refusals::BAD_TOTAL;
 ghost use mathlib.Core.Path.{_≡_};
-ghost use Prim.Native.Nat.{_+_, _≤_, _<_};
+ghost use Prim.Native.Nat.{_+_, _%_, _≤_, _<_};
 ghost use lib.ListN.{length};
-ghost use Rattle.laws.specs.Chains.{unless};
 ghost use Rattle.fixed_header.specs.Header.{be16Of, be32Of, totalOf, headerSizeOf, typeOf, headerIn};
-ghost use Rattle.fixed_header.specs.Header.{magicOk, streamTypeOk, totalOk, headerSizeOk, reservedOk, typeFault, sizeFault, faultOf};
+ghost use Rattle.fixed_header.specs.Header.{magicOk, streamTypeOk, totalOk, headerSizeOk, typeFault, sizeFault, faultOf};
 
 fn wide(b: u8) -> u32
     ensures { λ r. ⌜ (r ≡ b) × (r < 256) ⌝ }
@@ -104,15 +102,6 @@ fn header_size_ok(data_type: u8, total: usize, size: usize) -> bool
     size <= most
 }
 
-fn reserved_ok(first: u8, second: u8) -> bool
-    ensures { λ r. ⌜ r ≡ reservedOk first second ⌝ }
-{
-    if first != 0 {
-        return false;
-    }
-    second == 0
-}
-
 // 3, 4 or 5: the first rule of the magic and the types that is broken, 0 for none. In unary the stream type is ignored.
 fn type_fault(first: u8, second: u8, data_type: u8, stream_type: u8) -> u32
     ensures { λ r. ⌜ r ≡ typeFault first second «data_type» «stream_type» 0 ⌝ }
@@ -132,18 +121,15 @@ fn type_fault(first: u8, second: u8, data_type: u8, stream_type: u8) -> u32
     0
 }
 
-// 6, 7 or 8: the first rule of the sizes and the reserved bytes that is broken, 0 for none.
-fn size_fault(data_type: u8, total: usize, size: usize, reserved: bool) -> u32
-    ensures { λ r. ⌜ r ≡ sizeFault «data_type» total size (unless reserved 8 0) ⌝ }
+// 6 or 7: the first rule of the sizes that is broken, 0 for none.
+fn size_fault(data_type: u8, total: usize, size: usize) -> u32
+    ensures { λ r. ⌜ r ≡ sizeFault «data_type» total size ⌝ }
 {
     if !total_ok(total) {
         return BAD_TOTAL;
     }
     if !header_size_ok(data_type, total, size) {
         return BAD_HEADER_SIZE;
-    }
-    if !reserved {
-        return BAD_RESERVED;
     }
     0
 }
@@ -157,7 +143,14 @@ pub(crate) fn fault(h: &[u8]) -> u32
     if types != 0 {
         return types;
     }
-    size_fault(h[2], total(h), header_size(h), reserved_ok(h[14], h[15]))
+    size_fault(h[2], total(h), header_size(h))
+}
+
+// The version is byte 15 as it is: of a byte the definition's remainder is the byte.
+fn version(byte: u8) -> u8
+    ensures { λ r. ⌜ r ≡ byte % 256 ⌝ }
+{
+    byte
 }
 
 // What 16 bytes say.
@@ -170,5 +163,6 @@ pub(crate) fn header_in(h: &[u8]) -> FixedHeader
         total: total(h),
         header_size: header_size(h),
         id: be32(h, 10),
+        version: version(h[14]),
     }
 }

@@ -29,6 +29,7 @@ pub struct FixedHeader {
     pub total: usize,
     pub header_size: usize,
     pub id: u32,
+    pub version: u8,
 }
 
 // A good fixed header, or the error code of a bad one.
@@ -37,7 +38,7 @@ pub enum Parsed {
     Refused(u32),
 }
 
-// The error code of a fixed header: 0 where it is good, 9 where it is not 16 bytes, else 3 to 8.
+// The error code of a fixed header: 0 where it is good, 9 where it is not 16 bytes, else 3 to 7.
 pub fn check_header(bytes: &[u8]) -> u32
     ensures { λ r. ⌜ r ≡ headerError (now (bytes .entry)) ⌝ }
 {
@@ -81,6 +82,6 @@ pub fn put_header(header: FixedHeader, out: &mut [u8]) -> usize
     put::put_u32(header.total, out, 4);
     put::put_u16(header.header_size, out, 8);
     put::put_u32(header.id as usize, out, 10);
-    put::put_u16(0, out, 14);
+    put::put_version(header.version, out);
     HEADER
 }

@@ -73,3 +73,12 @@ pub(crate) fn put_types(frame_type: FrameType, out: &mut [u8])
     let types = data_type(frame_type) as usize + stream_type(frame_type) as usize * 256;
     put_low(0x3009 + types * 65536, out, 0);
 }
+
+// The version, and 0 in the last byte.
+pub(crate) fn put_version(version: u8, out: &mut [u8])
+    requires { ⌜ 16 ≤ length (now out) ⌝ }
+    ensures { λ _. ⌜ now (out .exit) ≡ sets (now (out .entry)) 14 ((version % 256) ∷ 0 ∷ []) ⌝ }
+{
+    out[14] = version;
+    out[15] = 0;
+}

@@ -1,5 +1,5 @@
 -- What the fixed header of a frame says of the frame
-use Prim.Native.Nat.{ℕ, _+_, _-_, _≤_, _<_}
+use Prim.Native.Nat.{ℕ, _+_, _-_, _%_, _≤_, _<_}
 use mathlib.Core.Path.{_≡_, refl, ap, _∙_}
 use mathlib.Core.Bool.{Bool, true, false, cond}
 use mathlib.Core.List.{List}
@@ -8,7 +8,7 @@ use borrow.Author.Tests.{eqb-true, eqb-false, leb-true}
 use lib.Dec.{eqb, leb}
 use lib.ListN.{length, take, getD}
 use lib.Seq.{getD-take}
-use Rattle.fixed_header.specs.Header.{maxFrame, be16Of, be32Of, totalOf, headerSizeOf, idOf, magicOk, dataTypeOk}
+use Rattle.fixed_header.specs.Header.{maxFrame, be16Of, be32Of, totalOf, headerSizeOf, idOf, versionOf, magicOk, dataTypeOk}
 use Rattle.fixed_header.specs.Header.{streamTypeOk, totalOk, headerSizeOk, faultOf, headerError, typeOf, parsed}
 use Rattle.fixed_header.specs.declared.FixedHeader.{FixedHeader}
 use Rattle.fixed_header.specs.declared.Parsed.the-variants.{Good, Refused}
@@ -35,6 +35,10 @@ size-take f = be16-take f 8 (omega arith)
 id-take : (f : List ℕ) → idOf (take 16 f) ≡ idOf f
 unfolding idOf
 id-take f = be32-take f 10 (omega arith)
+
+version-take : (f : List ℕ) → versionOf (take 16 f) ≡ versionOf f
+unfolding versionOf
+version-take f = ap (λ (n : ℕ). n % 256) (getD-take 16 f 14 0 (omega arith))
 
 -- ---- a good header
 small : (unary : Bool) (size total : ℕ) → cond unary (leb size (total - 16)) (eqb size 0) ≡ true → size ≤ total - 16
@@ -63,6 +67,7 @@ pub record Says (f : List ℕ) (x : FixedHeader) : Type 0 where
   pub total-is : x .total ≡ totalOf f
   pub size-is : x .«header_size» ≡ headerSizeOf f
   pub id-is : x .id ≡ idOf f
+  pub version-is : x .version ≡ versionOf f
 
 abbrev told : List ℕ → FixedHeader
 told f =
@@ -71,6 +76,7 @@ told f =
       total = totalOf (take 16 f);
       «header_size» = headerSizeOf (take 16 f);
       id = idOf (take 16 f);
+      version = versionOf (take 16 f);
     }
 
 pub parsed-good : (f : List ℕ) (x : FixedHeader) → Good x ≡ parsed (take 16 f) → Says f x
@@ -85,6 +91,7 @@ parsed-good f x e = go (eqb (headerError (take 16 f)) 0) refl e
           total-is = ap (λ (y : FixedHeader). y .total) same ∙ total-take f;
           size-is = ap (λ (y : FixedHeader). y .«header_size») same ∙ size-take f;
           id-is = ap (λ (y : FixedHeader). y .id) same ∙ id-take f;
+          version-is = ap (λ (y : FixedHeader). y .version) same ∙ version-take f;
         }
     go false t g = let z : _≡_ {A = ℕ} 0 1 = cc in absurd (omega arith)
 

@@ -6,7 +6,7 @@ use native.Mathlib.Omega.{arith}
 use borrow.Author.Tests.{le-leb, lt-leb}
 use lib.ListN.{length, drop, replicate, length-drop}
 use lib.Seq.{length-take-le}
-use Rattle.fixed_header.specs.Header.{headerSizeOf, idOf}
+use Rattle.fixed_header.specs.Header.{headerSizeOf, idOf, versionOf}
 use Rattle.wire_read.specs.Part.{part}
 use Rattle.schema.specs.Schema.{schemaAt}
 use Rattle.decoder.specs.Rows.{Row, rowNumbers, laidOut, rowsCleared}
@@ -77,7 +77,7 @@ cleared-again rows lent few long =
 module _ (kind : Kind) (f lent : List ℕ) (st : State) where
   attached : attachmentSizeOf kind (st .slots) ≤ length (bodyOf kind f)
       → answered kind f lent (ok st) ≡ record {
-        answer = answers.Read (recordOf kind (idOf f) (st .slots) (length (st .rows)));
+        answer = answers.Read (recordOf kind (idOf f) (versionOf f) (st .slots) (length (st .rows)));
         header = headerOf kind f;
         body = bodyOf kind f;
         attachment = lastBytes (attachmentSizeOf kind (st .slots)) (bodyOf kind f);
@@ -91,9 +91,9 @@ module _ (kind : Kind) (f lent : List ℕ) (st : State) where
   unfolding answered withAttachment
   too-large h = rw (lt-leb (attachmentSizeOf kind (st .slots)) (length (bodyOf kind f)) h)
 
-same-record : (kind : Kind) {id id′ rows rows′ : ℕ} {slots slots′ : List ℕ} → id ≡ id′ → slots ≡ slots′ → rows ≡ rows′
-    → recordOf kind id slots rows ≡ recordOf kind id′ slots′ rows′
-same-record kind e g h = cc
+same-record : (kind : Kind) {id id′ version version′ rows rows′ : ℕ} {slots slots′ : List ℕ} → id ≡ id′ → version ≡ version′
+    → slots ≡ slots′ → rows ≡ rows′ → recordOf kind id version slots rows ≡ recordOf kind id′ version′ slots′ rows′
+same-record kind e v g h = cc
 
 -- the span of a part that ends with the frame
 end-span : {size start n : ℕ} → start ≤ size → n ≡ size - start → spanFrom start (size - start) ≡ spanFrom (size - n) n
@@ -102,8 +102,8 @@ end-span {size} {start} {n} h e =
     rw (← e, ← g) refl
 
 -- ---- the reading of a whole frame: the code's body place, schema number, and what the decoder answered
-module _ (kind : Kind) (f lent : List ℕ) (size id body n : ℕ) (d : Decoded) (numbers : List ℕ)
-    (rows : rowNumbers ≤ length lent) (whole : Whole kind f size id) (body-is : body ≡ bodyAt kind size (length f))
+module _ (kind : Kind) (f lent : List ℕ) (size id version body n : ℕ) (d : Decoded) (numbers : List ℕ)
+    (rows : rowNumbers ≤ length lent) (whole : Whole kind f size id version) (body-is : body ≡ bodyAt kind size (length f))
     (schema-is : n ≡ schemaNumber kind)
     (gave : Gives (decoded f 16 body n lent) d numbers) where
   place : body ≡ bodyAt kind (headerSizeOf f) (length f)
@@ -119,7 +119,7 @@ module _ (kind : Kind) (f lent : List ℕ) (size id body n : ℕ) (d : Decoded) 
   body-length = ap length rest ∙ length-drop body f
 
   bounds : (16 ≤ body) × (body ≤ length f)
-  bounds = within kind f size id whole body body-is
+  bounds = within kind f size id version whole body body-is
 
   header-length : length (headerOf kind f) ≡ body - 16
   header-length = sym (ap length head) ∙ length-take-le (body - 16) (drop 16 f) (omega (arith, length-drop 16 f, bounds))
@@ -130,11 +130,11 @@ module _ (kind : Kind) (f lent : List ℕ) (size id body n : ℕ) (d : Decoded) 
   its : Decodes result d numbers lent
   unfolding result
   its = rw (← (ap schemaAt schema-is ∙ numbered kind), ← head)
-      (decodes f 16 body n lent d numbers rows (frame-size kind f size id whole .1) gave)
+      (decodes f 16 body n lent d numbers rows (frame-size kind f size id version whole .1) gave)
 
   answer : readFrame kind f lent ≡ answered kind f lent result
   unfolding result
-  answer = its-message kind f lent rows (frame-size kind f size id whole .0) (whole .good) (whole .total-is) (whole .fits)
+  answer = its-message kind f lent rows (frame-size kind f size id version whole .0) (whole .good) (whole .total-is) (whole .fits)
 
   pub few-decoded : d .error ≡ 0 → d .slots .rows ≤ 64
   few-decoded e = let (st, x, r) = succeeded result d numbers lent its e in omega (arith, ap rows-of (r .answer-is), r .few)
@@ -158,7 +158,7 @@ module _ (kind : Kind) (f lent : List ℕ) (size id body n : ℕ) (d : Decoded) 
       g
 
   pub message-read : {r : Record} {a : ℕ} → d .error ≡ 0 → a ≡ attachmentSizeOf kind (d .slots .values) → a ≤ length f - body
-      → r ≡ recordOf kind id (d .slots .values) (d .slots .rows)
+      → r ≡ recordOf kind id version (d .slots .values) (d .slots .rows)
       → PartsOf (readFrame kind f lent) (length f)
       (record { answer = answers.Read r; places = record { header = 16; body = body; attachment = length f - a; end = length f } })
       numbers
@@ -167,9 +167,11 @@ module _ (kind : Kind) (f lent : List ℕ) (size id body n : ℕ) (d : Decoded) 
       let a-is : a ≡ attachmentSizeOf kind (st .slots) = is-a ∙ ap (attachmentSizeOf kind) (ap values-of (k .answer-is)) in
       let all = answer ∙ ap (answered kind f lent) x ∙ attached kind f lent st (omega (arith, body-length, a-is)) in
       rw all (record {
-        answer-is = ap answers.Read (is-r ∙ same-record kind (whole .id-is) (ap values-of (k .answer-is)) (ap rows-of (k .answer-is)));
+        answer-is =
+            ap answers.Read
+            (is-r ∙ same-record kind (whole .id-is) (whole .version-is) (ap values-of (k .answer-is)) (ap rows-of (k .answer-is)));
         rows-are = k .laid;
-        small = omega (arith, bounds, frame-size kind f size id whole);
+        small = omega (arith, bounds, frame-size kind f size id version whole);
         header-at = ap (spanFrom 16) (sym header-length);
         body-at = end-span (bounds .1) body-length;
         attachment-at =

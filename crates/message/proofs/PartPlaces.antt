@@ -14,7 +14,7 @@ use Rattle.schema.specs.declared.Kind.{Kind}
 use Rattle.schema.specs.declared.Kind.the-variants as kinds
 use Rattle.message.proofs.Headers.{good-size, good-whole}
 
-module _ (kind : Kind) (f : List ℕ) (size id : ℕ) (whole : Whole kind f size id) where
+module _ (kind : Kind) (f : List ℕ) (size id version : ℕ) (whole : Whole kind f size id version) where
   pub header-size : 16 + size ≤ length f
   header-size = omega (arith, whole .size-is, whole .total-is, good-size f (whole .good), good-whole f (whole .good))
 
@@ -31,9 +31,9 @@ body-within kinds.Data size n h = omega arith
 body-within kinds.Feedback size n h = omega arith
 body-within kinds.Close size n h = omega arith
 
-pub within : (kind : Kind) (f : List ℕ) (size id : ℕ) → Whole kind f size id → (body : ℕ) → body ≡ bodyAt kind size (length f)
-    → (16 ≤ body) × (body ≤ length f)
-within kind f size id whole body e = rw e (body-within kind size (length f) (header-size kind f size id whole))
+pub within : (kind : Kind) (f : List ℕ) (size id version : ℕ) → Whole kind f size id version → (body : ℕ)
+    → body ≡ bodyAt kind size (length f) → (16 ≤ body) × (body ≤ length f)
+within kind f size id version whole body e = rw e (body-within kind size (length f) (header-size kind f size id version whole))
 
 -- "the last attachment_size bytes of the body", where it has as many
 pub length-last : (n : ℕ) (body : List ℕ) → n ≤ length body → length (lastBytes n body) ≡ n

@@ -9,7 +9,7 @@ use borrow.Author.Tests.{eqb-true, ltb-true, ltb-false}
 use lib.Dec.{eqb, ltb, leb}
 use lib.ListN.{length, take, drop, getD, length-drop, drop-of-length-le}
 use lib.Seq.{length-take-le, take-all, drop-drop, drop-length}
-use Rattle.fixed_header.specs.Header.{headerError, totalOf, headerSizeOf, idOf}
+use Rattle.fixed_header.specs.Header.{headerError, totalOf, headerSizeOf, idOf, versionOf}
 use Rattle.decoder.specs.Rows.{rowNumbers, laidOut}
 use Rattle.decoder.specs.Fields.{Result, ok, refused, readMessage}
 use Rattle.schema.specs.Kinds.{schemaOf}
@@ -110,7 +110,7 @@ module _ (f : List ℕ) where
         either
         (leb size (length (bodyOf kind f)))
         (there (record {
-          answer = Read (recordOf kind (idOf f) (st .slots) (length (st .rows)));
+          answer = Read (recordOf kind (idOf f) (versionOf f) (st .slots) (length (st .rows)));
           header = headerOf kind f;
           body = bodyOf kind f;
           attachment = lastBytes size (bodyOf kind f);

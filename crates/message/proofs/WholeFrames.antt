@@ -35,7 +35,8 @@ module _ (kind : Kind) (f lent : List ℕ) (rows : rowNumbers ≤ length lent) (
         let s = parsed-good f x good in
         refusal (other-kind kind f lent rows long (s .good) (e ∙ s .total-is) k) g
 
-    pub whole-frame : length f ≡ x .total → kindFits kind (getD f 2 0) (getD f 3 0) ≡ true → Whole kind f (x .«header_size») (x .id)
+    pub whole-frame : length f ≡ x .total → kindFits kind (getD f 2 0) (getD f 3 0) ≡ true
+        → Whole kind f (x .«header_size») (x .id) (x .version)
     whole-frame e k =
         let s = parsed-good f x good in
-        record { good = s .good; total-is = e ∙ s .total-is; fits = k; size-is = s .size-is; id-is = s .id-is }
+        record { good = s .good; total-is = e ∙ s .total-is; fits = k; size-is = s .size-is; id-is = s .id-is; version-is = s .version-is }

@@ -4,7 +4,7 @@ use mathlib.Core.Bool.{Bool, cond, _&&_}
 use mathlib.Core.List.{List, []}
 use lib.ListN.{length, take, drop, getD}
 use lib.Dec.{ltb, leb, eqb}
-use Rattle.fixed_header.specs.Header.{headerError, totalOf, headerSizeOf, idOf}
+use Rattle.fixed_header.specs.Header.{headerError, totalOf, headerSizeOf, idOf, versionOf}
 use Rattle.decoder.specs.Fields.{State, Result, ok, refused, readMessage}
 use Rattle.decoder.specs.Rows.{rowNumbers, laidOut}
 use Rattle.schema.specs.Kinds.{schemaOf}
@@ -70,7 +70,7 @@ unfoldable pub withAttachment : Kind → List ℕ → List ℕ → State → Rea
 withAttachment kind f lent st =
     cond (leb (attachmentSizeOf kind (st .slots)) (length (bodyOf kind f)))
     (record {
-      answer = Read (recordOf kind (idOf f) (st .slots) (length (st .rows)));
+      answer = Read (recordOf kind (idOf f) (versionOf f) (st .slots) (length (st .rows)));
       header = headerOf kind f;
       body = bodyOf kind f;
       attachment = lastBytes (attachmentSizeOf kind (st .slots)) (bodyOf kind f);
@@ -83,7 +83,7 @@ unfoldable pub answered : Kind → List ℕ → List ℕ → Result → Reading
 answered kind f lent (refused code) = refusedCleared code lent
 answered kind f lent (ok st) = withAttachment kind f lent st
 
--- "Reader: 16; fewer than 16 bytes is 9; 3 to 8; 9; then fields from left to right, ..; 15 last."
+-- "Reader: 16; fewer than 16 bytes is 9; 3 to 8; 9; then fields from left to right, ..; 15 last", without 8
 unfoldable pub readFrame : Kind → List ℕ → List ℕ → Reading
 readFrame kind f lent =
     cond (ltb (length lent) rowNumbers) (refusedUntouched 16 lent)

@@ -12,7 +12,7 @@ use Rattle.records.specs.declared.Record.{Record}
 use Rattle.records.specs.declared.Record.the-variants.{Request, Response, Init, Data, Feedback, Close}
 use Rattle.message.specs.declared.Answer.{Answer}
 use Rattle.message.specs.declared.Answer.the-variants.{Read, Refused}
-use Rattle.records.specs.Content.{kindOf, recordId, rowCount}
+use Rattle.records.specs.Content.{kindOf, recordId, recordVersion, rowCount}
 
 -- "A byte field is a start and length": its length, and the bytes that the two name. The length is beside them, since what they name
 -- ends with the source.
@@ -73,13 +73,14 @@ pairsOf source (row ∷ rows) =
           (row .valueSize);
     } ∷ pairsOf source rows
 
--- "Beside its kind, a record is the id of bytes 11-14, that kind's own fields and present marks, and the row count; no more."
+-- "Beside its kind, a record is the id of bytes 11-14, that kind's own fields and present marks, and the row count; no more." Document 02,
+-- P2: "Every record carries the version"; "Demand 2's round trip includes the version"
 pub data Meaning : Type 0 where
-  says : Kind → (id : ℕ) → (fields : List Said) → (rows : List Pair) → Meaning
+  says : Kind → (id version : ℕ) → (fields : List Said) → (rows : List Pair) → Meaning
   refused : (code : ℕ) → Meaning
 
 abbrev pub meaning : Record → (source numbers : List ℕ) → Meaning
-meaning r source numbers = says (kindOf r) (recordId r) (fieldsOf source r) (pairsOf source (rowsIn (rowCount r) numbers))
+meaning r source numbers = says (kindOf r) (recordId r) (recordVersion r) (fieldsOf source r) (pairsOf source (rowsIn (rowCount r) numbers))
 
 -- what the reader answered says
 unfoldable pub answerMeaning : Answer → (source numbers : List ℕ) → Meaning

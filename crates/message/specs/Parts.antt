@@ -4,7 +4,7 @@ use mathlib.Core.Path.{_≡_}
 use mathlib.Core.Bool.{true}
 use mathlib.Core.List.{List}
 use lib.ListN.{length, take, getD}
-use Rattle.fixed_header.specs.Header.{maxFrame, headerError, totalOf, headerSizeOf, idOf}
+use Rattle.fixed_header.specs.Header.{maxFrame, headerError, totalOf, headerSizeOf, idOf, versionOf}
 use Rattle.message.specs.Frames.{Reading, kindFits}
 use Rattle.message.specs.Spans.{spanFrom, spansOf}
 use Rattle.schema.specs.declared.Kind.{Kind}
@@ -35,10 +35,11 @@ bodyAt kinds.Data h n = 16
 bodyAt kinds.Feedback h n = n
 bodyAt kinds.Close h n = n
 
--- a frame that is whole and of its kind, with its header size and id
-pub record Whole (kind : Kind) (f : List ℕ) (headerSize id : ℕ) : Type 0 where
+-- a frame that is whole and of its kind, with its header size, id and version
+pub record Whole (kind : Kind) (f : List ℕ) (headerSize id version : ℕ) : Type 0 where
   pub good : headerError (take 16 f) ≡ 0
   pub total-is : length f ≡ totalOf f
   pub fits : kindFits kind (getD f 2 0) (getD f 3 0) ≡ true
   pub size-is : headerSize ≡ headerSizeOf f
   pub id-is : id ≡ idOf f
+  pub version-is : version ≡ versionOf f

@@ -109,8 +109,15 @@ fn attachment_size(kind: Kind, v: [u32; 16]) -> u32
 }
 
 // The message of a frame that is whole and of its kind.
-fn read_message(kind: Kind, frame: &[u8], header_size: usize, id: u32, rows: &mut [u32]) -> Parts
-    requires { ⌜ (rowNumbers ≤ length (now rows)) × Whole kind (now frame) «header_size» id ⌝ }
+fn read_message(
+    kind: Kind,
+    frame: &[u8],
+    header_size: usize,
+    id: u32,
+    version: u8,
+    rows: &mut [u32],
+) -> Parts
+    requires { ⌜ (rowNumbers ≤ length (now rows)) × Whole kind (now frame) «header_size» id version ⌝ }
     ensures { λ r. ⌜ PartsOf (readFrame kind (now (frame .entry)) (now (rows .entry))) (length (now (frame .entry)))
         r (now (rows .exit)) ⌝ }
 {
@@ -129,7 +136,7 @@ fn read_message(kind: Kind, frame: &[u8], header_size: usize, id: u32, rows: &mu
         return refused(BAD_BODY);
     }
     Parts {
-        answer: Answer::Read(record_of(kind, id, values, slots.rows as u32)),
+        answer: Answer::Read(record_of(kind, id, version, values, slots.rows as u32)),
         places: Places {
             header: HEADER,
             body,
@@ -151,10 +158,17 @@ fn read_whole(kind: Kind, frame: &[u8], header: FixedHeader, rows: &mut [u32]) -
     if !kind_fits(kind, frame[2], frame[3]) {
         return refused(WRONG_FRAME);
     }
-    read_message(kind, frame, header.header_size, header.id, rows)
+    read_message(
+        kind,
+        frame,
+        header.header_size,
+        header.id,
+        header.version,
+        rows,
+    )
 }
 
-// A frame read as a kind: the order of the error codes is 16; 9 for fewer than 16 bytes; 3 to 8; 9; 10 to 14; 15.
+// A frame read as a kind: the order of the error codes is 16; 9 for fewer than 16 bytes; 3 to 7; 9; 10 to 14; 15.
 pub(crate) fn read_parts(kind: Kind, frame: &[u8], rows: &mut [u32]) -> Parts
     ensures { λ r. ⌜ PartsOf (readFrame kind (now (frame .entry)) (now (rows .entry))) (length (now (frame .entry)))
         r (now (rows .exit)) ⌝ }

@@ -1,4 +1,4 @@
--- What the writer takes from a record: its kind, its id, its fields by the order of its schema, and how many rows it has
+-- What the writer takes from a record: its kind, its id, its version, its fields by the order of its schema, and how many rows it has
 use Prim.Native.Nat.{ℕ}
 use mathlib.Core.Bool.{Bool, cond}
 use mathlib.Core.List.{List, [], _∷_}
@@ -28,6 +28,15 @@ recordId (Init r) = r .id
 recordId (Data r) = r .id
 recordId (Feedback r) = r .id
 recordId (Close r) = r .id
+
+-- "Every record carries the version" (document 02, P2)
+unfoldable pub recordVersion : Record → ℕ
+recordVersion (Request r) = r .«header_version»
+recordVersion (Response r) = r .«header_version»
+recordVersion (Init r) = r .«header_version»
+recordVersion (Data r) = r .«header_version»
+recordVersion (Feedback r) = r .«header_version»
+recordVersion (Close r) = r .«header_version»
 
 -- "and the row count"
 unfoldable pub rowCount : Record → ℕ

@@ -31,11 +31,13 @@ requestMetaOf l =
 abbrev pub responseMetaOf : List ℕ → ResponseMeta
 responseMetaOf l = record { present = not (eqb (getD l 8 0) 0); ret = lowI32 (getD l 9 0); «error_msg» = spanAt l 10 }
 
--- "Beside its kind, a record is the id of bytes 11-14, that kind's own fields and present marks, and the row count; no more."
-unfoldable pub recordOf : Kind → (id : ℕ) → (slots : List ℕ) → (rows : ℕ) → Record
-recordOf kinds.Request id l rows =
+-- "Beside its kind, a record is the id of bytes 11-14, that kind's own fields and present marks, and the row count; no more." Document 02,
+-- P2: "Every record carries the version" of byte 15. The `version` of a request or a response is a field of its message, another thing
+unfoldable pub recordOf : Kind → (id header-version : ℕ) → (slots : List ℕ) → (rows : ℕ) → Record
+recordOf kinds.Request id header-version l rows =
     Request (record {
       id = id;
+      «header_version» = header-version;
       version = getD l 0 0;
       «call_type» = getD l 1 0;
       «request_id» = getD l 2 0;
@@ -49,9 +51,10 @@ recordOf kinds.Request id l rows =
       «attachment_size» = getD l 13 0;
       rows = rows;
     })
-recordOf kinds.Response id l rows =
+recordOf kinds.Response id header-version l rows =
     Response (record {
       id = id;
+      «header_version» = header-version;
       version = getD l 0 0;
       «call_type» = getD l 1 0;
       «request_id» = getD l 2 0;
@@ -64,9 +67,10 @@ recordOf kinds.Response id l rows =
       «attachment_size» = getD l 10 0;
       rows = rows;
     })
-recordOf kinds.Init id l rows =
+recordOf kinds.Init id header-version l rows =
     Init (record {
       id = id;
+      «header_version» = header-version;
       «request_meta» = requestMetaOf l;
       «response_meta» = responseMetaOf l;
       «init_window_size» = getD l 12 0;
@@ -74,11 +78,13 @@ recordOf kinds.Init id l rows =
       «content_encoding» = getD l 14 0;
       rows = rows;
     })
-recordOf kinds.Data id l rows = Data (record { id = id; rows = rows })
-recordOf kinds.Feedback id l rows = Feedback (record { id = id; «window_size_increment» = getD l 0 0; rows = rows })
-recordOf kinds.Close id l rows =
+recordOf kinds.Data id header-version l rows = Data (record { id = id; «header_version» = header-version; rows = rows })
+recordOf kinds.Feedback id header-version l rows =
+    Feedback (record { id = id; «header_version» = header-version; «window_size_increment» = getD l 0 0; rows = rows })
+recordOf kinds.Close id header-version l rows =
     Close (record {
       id = id;
+      «header_version» = header-version;
       «close_type» = lowI32 (getD l 0 0);
       ret = lowI32 (getD l 1 0);
       msg = spanAt l 2;

@@ -14,7 +14,7 @@ use slots::request_slots;
 use slots::response_slots;
 ghost use mathlib.Core.Path.{_≡_};
 ghost use Rattle.records.specs.Records.{recordOf};
-ghost use Rattle.records.specs.Content.{kindOf, recordId, rowCount, slotsOf};
+ghost use Rattle.records.specs.Content.{kindOf, recordId, recordVersion, rowCount, slotsOf};
 
 // A byte field: where it starts in the frame, and how long it is; an empty one is 0, 0.
 pub struct Span {
@@ -24,6 +24,7 @@ pub struct Span {
 
 pub struct Request {
     pub id: u32,
+    pub header_version: u8,
     pub version: u32,
     pub call_type: u32,
     pub request_id: u32,
@@ -40,6 +41,7 @@ pub struct Request {
 
 pub struct Response {
     pub id: u32,
+    pub header_version: u8,
     pub version: u32,
     pub call_type: u32,
     pub request_id: u32,
@@ -69,6 +71,7 @@ pub struct ResponseMeta {
 
 pub struct Init {
     pub id: u32,
+    pub header_version: u8,
     pub request_meta: RequestMeta,
     pub response_meta: ResponseMeta,
     pub init_window_size: u32,
@@ -79,17 +82,20 @@ pub struct Init {
 
 pub struct Data {
     pub id: u32,
+    pub header_version: u8,
     pub rows: u32,
 }
 
 pub struct Feedback {
     pub id: u32,
+    pub header_version: u8,
     pub window_size_increment: u32,
     pub rows: u32,
 }
 
 pub struct Close {
     pub id: u32,
+    pub header_version: u8,
     pub close_type: i32,
     pub ret: i32,
     pub msg: Span,
@@ -111,63 +117,74 @@ pub enum Record {
 pub struct Outline {
     pub kind: Kind,
     pub id: u32,
+    pub header_version: u8,
     pub rows: u32,
 }
 
 // The record of a message whose slots have these values, with that many rows.
-pub fn record_of(kind: Kind, id: u32, v: [u32; 16], rows: u32) -> Record
-    ensures { λ r. ⌜ r ≡ recordOf kind id v rows ⌝ }
+pub fn record_of(kind: Kind, id: u32, header_version: u8, v: [u32; 16], rows: u32) -> Record
+    ensures { λ r. ⌜ r ≡ recordOf kind id «header_version» v rows ⌝ }
 {
     match kind {
-        Kind::Request => request_of(id, v, rows),
-        Kind::Response => response_of(id, v, rows),
-        Kind::Init => init_of(id, v, rows),
-        Kind::Data => Record::Data(Data { id, rows }),
+        Kind::Request => request_of(id, header_version, v, rows),
+        Kind::Response => response_of(id, header_version, v, rows),
+        Kind::Init => init_of(id, header_version, v, rows),
+        Kind::Data => Record::Data(Data {
+            id,
+            header_version,
+            rows,
+        }),
         Kind::Feedback => Record::Feedback(Feedback {
             id,
+            header_version,
             window_size_increment: v[0],
             rows,
         }),
-        Kind::Close => close_of(id, v, rows),
+        Kind::Close => close_of(id, header_version, v, rows),
     }
 }
 
 // What a record of this kind is beside its fields.
-fn beside(kind: Kind, id: u32, rows: u32) -> Outline
-    ensures { λ r. ⌜ (r .kind ≡ kind) × (r .id ≡ id) × (r .rows ≡ rows) ⌝ }
+fn beside(kind: Kind, id: u32, header_version: u8, rows: u32) -> Outline
+    ensures { λ r. ⌜ (r .kind ≡ kind) × (r .id ≡ id) × (r .«header_version» ≡ «header_version») × (r .rows ≡ rows) ⌝ }
 {
-    Outline { kind, id, rows }
+    Outline {
+        kind,
+        id,
+        header_version,
+        rows,
+    }
 }
 
 // Stores the fields of a record by the order of its kind's schema, as `record_of` takes them, and returns what else it is.
 pub fn slots_of(record: Record, slots: &mut [u32; 16]) -> Outline
-    ensures { λ r. ⌜ (r .kind ≡ kindOf «record») × (r .id ≡ recordId «record») × (r .rows ≡ rowCount «record»)
-        × (now (slots .exit) ≡ slotsOf «record») ⌝ }
+    ensures { λ r. ⌜ (r .kind ≡ kindOf «record») × (r .id ≡ recordId «record») × (r .«header_version» ≡ recordVersion «record»)
+        × (r .rows ≡ rowCount «record») × (now (slots .exit) ≡ slotsOf «record») ⌝ }
 {
     match record {
         Record::Request(r) => {
             *slots = request_slots(r);
-            beside(Kind::Request, r.id, r.rows)
+            beside(Kind::Request, r.id, r.header_version, r.rows)
         }
         Record::Response(r) => {
             *slots = response_slots(r);
-            beside(Kind::Response, r.id, r.rows)
+            beside(Kind::Response, r.id, r.header_version, r.rows)
         }
         Record::Init(r) => {
             *slots = init_slots(r);
-            beside(Kind::Init, r.id, r.rows)
+            beside(Kind::Init, r.id, r.header_version, r.rows)
         }
         Record::Data(r) => {
             *slots = [0; 16];
-            beside(Kind::Data, r.id, r.rows)
+            beside(Kind::Data, r.id, r.header_version, r.rows)
         }
         Record::Feedback(r) => {
             *slots = feedback_slots(r);
-            beside(Kind::Feedback, r.id, r.rows)
+            beside(Kind::Feedback, r.id, r.header_version, r.rows)
         }
         Record::Close(r) => {
             *slots = close_slots(r);
-            beside(Kind::Close, r.id, r.rows)
+            beside(Kind::Close, r.id, r.header_version, r.rows)
         }
     }
 }

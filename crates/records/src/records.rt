@@ -19,11 +19,12 @@ fn signed(v: u32) -> i32
     wire_read::low_i32(v as u64)
 }
 
-pub(crate) fn request_of(id: u32, v: [u32; 16], rows: u32) -> Record
-    ensures { λ r. ⌜ r ≡ recordOf Kind.Request id v rows ⌝ }
+pub(crate) fn request_of(id: u32, header_version: u8, v: [u32; 16], rows: u32) -> Record
+    ensures { λ r. ⌜ r ≡ recordOf Kind.Request id «header_version» v rows ⌝ }
 {
     Record::Request(Request {
         id,
+        header_version,
         version: v[0],
         call_type: v[1],
         request_id: v[2],
@@ -48,11 +49,12 @@ pub(crate) fn request_of(id: u32, v: [u32; 16], rows: u32) -> Record
     })
 }
 
-pub(crate) fn response_of(id: u32, v: [u32; 16], rows: u32) -> Record
-    ensures { λ r. ⌜ r ≡ recordOf Kind.Response id v rows ⌝ }
+pub(crate) fn response_of(id: u32, header_version: u8, v: [u32; 16], rows: u32) -> Record
+    ensures { λ r. ⌜ r ≡ recordOf Kind.Response id «header_version» v rows ⌝ }
 {
     Record::Response(Response {
         id,
+        header_version,
         version: v[0],
         call_type: v[1],
         request_id: v[2],
@@ -104,11 +106,12 @@ fn response_meta_of(v: [u32; 16]) -> ResponseMeta
     }
 }
 
-pub(crate) fn init_of(id: u32, v: [u32; 16], rows: u32) -> Record
-    ensures { λ r. ⌜ r ≡ recordOf Kind.Init id v rows ⌝ }
+pub(crate) fn init_of(id: u32, header_version: u8, v: [u32; 16], rows: u32) -> Record
+    ensures { λ r. ⌜ r ≡ recordOf Kind.Init id «header_version» v rows ⌝ }
 {
     Record::Init(Init {
         id,
+        header_version,
         request_meta: request_meta_of(v),
         response_meta: response_meta_of(v),
         init_window_size: v[12],
@@ -118,11 +121,12 @@ pub(crate) fn init_of(id: u32, v: [u32; 16], rows: u32) -> Record
     })
 }
 
-pub(crate) fn close_of(id: u32, v: [u32; 16], rows: u32) -> Record
-    ensures { λ r. ⌜ r ≡ recordOf Kind.Close id v rows ⌝ }
+pub(crate) fn close_of(id: u32, header_version: u8, v: [u32; 16], rows: u32) -> Record
+    ensures { λ r. ⌜ r ≡ recordOf Kind.Close id «header_version» v rows ⌝ }
 {
     Record::Close(Close {
         id,
+        header_version,
         close_type: signed(v[0]),
         ret: signed(v[1]),
         msg: Span {

@@ -35,10 +35,6 @@ badTotal = 6
 abbrev pub badHeaderSize : ℕ
 badHeaderSize = 7
 
--- header judge: "reserved"
-abbrev pub badReserved : ℕ
-badReserved = 8
-
 -- reader, judge: "length isn't the total (judge: not 16); or the wrong kind of frame"
 abbrev pub wrongFrame : ℕ
 wrongFrame = 9
@@ -115,13 +111,14 @@ outputShort = 27
 -- all numbers in use, rising
 abbrev pub inUse : List ℕ
 inUse =
-    bufferShort ∷ stateUnknown ∷ badMagic ∷ badDataType ∷ badStreamType ∷ badTotal ∷ badHeaderSize ∷ badReserved ∷ wrongFrame ∷
+    bufferShort ∷ stateUnknown ∷ badMagic ∷ badDataType ∷ badStreamType ∷ badTotal ∷ badHeaderSize ∷ wrongFrame ∷
     badVarint ∷ badTag ∷ pastEnd ∷ tooDeep ∷ tooManyEntries ∷ badBody ∷ rowsShort ∷ pastSource ∷ badRows ∷ frameOver ∷
     queueFull ∷ lateArrival ∷ queueEmpty ∷ badQueue ∷ pairWaits ∷ pairAbsent ∷ outputShort ∷ []
 
--- numbers that a request took out of use, rising. Document 02: "20 is never used again."
+-- numbers that a request took out of use, rising. Document 02: "8 is no longer given and isn't used for anything else"; "20 is never used
+-- again."
 abbrev pub retired : List ℕ
-retired = 20 ∷ []
+retired = 8 ∷ 20 ∷ []
 
 abbrev pub Among : ℕ → List ℕ → Type 0
 Among n ns = Some (λ (m : ℕ). n ≡ m) ns

@@ -1,4 +1,4 @@
-// A record, a line for each of its fields, in the order of source document 000.
+// A record: a line with its kind and id, one with its version, and one for each of its fields, in the order of source document 000.
 use crate::lines::print_lines;
 use records::Close;
 use records::Data;
@@ -32,9 +32,14 @@ pub(crate) fn rows_of(record: Record) -> u32 {
     }
 }
 
+fn print_first(names: &[u8], id: u32, version: u8, frame: &[u8]) {
+    let values = [id, version as u32];
+    print_lines(names, &values, frame);
+}
+
 fn print_request(r: Request, frame: &[u8]) {
+    print_first(b"request%header_version%", r.id, r.header_version, frame);
     let values = [
-        r.id,
         r.version,
         r.call_type,
         r.request_id,
@@ -52,13 +57,13 @@ fn print_request(r: Request, frame: &[u8]) {
         r.rows,
     ];
     let names =
-        b"request%version%call_type%request_id%timeout%caller$callee$func$message_type%content_type%content_encoding%attachment_size%rows%";
+        b"version%call_type%request_id%timeout%caller$callee$func$message_type%content_type%content_encoding%attachment_size%rows%";
     print_lines(names, &values, frame);
 }
 
 fn print_response(r: Response, frame: &[u8]) {
+    print_first(b"response%header_version%", r.id, r.header_version, frame);
     let values = [
-        r.id,
         r.version,
         r.call_type,
         r.request_id,
@@ -73,13 +78,12 @@ fn print_response(r: Response, frame: &[u8]) {
         r.rows,
     ];
     let names =
-        b"response%version%call_type%request_id%ret-func_ret-error_msg$message_type%content_type%content_encoding%attachment_size%rows%";
+        b"version%call_type%request_id%ret-func_ret-error_msg$message_type%content_type%content_encoding%attachment_size%rows%";
     print_lines(names, &values, frame);
 }
 
 fn print_init(r: Init, frame: &[u8]) {
-    let id = [r.id];
-    print_lines(b"init%", &id, frame);
+    print_first(b"init%header_version%", r.id, r.header_version, frame);
     print_request_meta(r.request_meta, frame);
     print_response_meta(r.response_meta, frame);
     print_init_end(r, frame);
@@ -131,18 +135,20 @@ fn mark(present: bool) -> u32 {
 }
 
 fn print_data(r: Data, frame: &[u8]) {
-    let values = [r.id, r.rows];
-    print_lines(b"data%rows%", &values, frame);
+    print_first(b"data%header_version%", r.id, r.header_version, frame);
+    let values = [r.rows];
+    print_lines(b"rows%", &values, frame);
 }
 
 fn print_feedback(r: Feedback, frame: &[u8]) {
-    let values = [r.id, r.window_size_increment, r.rows];
-    print_lines(b"feedback%window_size_increment%rows%", &values, frame);
+    print_first(b"feedback%header_version%", r.id, r.header_version, frame);
+    let values = [r.window_size_increment, r.rows];
+    print_lines(b"window_size_increment%rows%", &values, frame);
 }
 
 fn print_close(r: Close, frame: &[u8]) {
+    print_first(b"close%header_version%", r.id, r.header_version, frame);
     let values = [
-        r.id,
         bits(r.close_type),
         bits(r.ret),
         r.msg.start,
@@ -151,7 +157,7 @@ fn print_close(r: Close, frame: &[u8]) {
         bits(r.func_ret),
         r.rows,
     ];
-    let names = b"close%close_type-ret-msg$message_type%func_ret-rows%";
+    let names = b"close_type-ret-msg$message_type%func_ret-rows%";
     print_lines(names, &values, frame);
 }
 

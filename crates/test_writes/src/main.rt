@@ -2,10 +2,11 @@
 // frames or error codes. The file `stdout` has frames whose messages `protoc --encode` wrote from
 // the same values. tests/protoc/make-writes makes both files.
 //
-// A case of standard input is ten numbers: the lengths of its label, of the row numbers that are
+// A case of standard input is eleven numbers: the lengths of its label, of the row numbers that are
 // lent, of the source, of the body and of the output; how many bytes of the source and of the body
-// are given, which are repeated up to the length; the kind, the id and the row count. Then come 16
-// numbers for the fields (`record`), the label, the row numbers, the source and the body.
+// are given, which are repeated up to the length; the kind, the id, the row count and the version.
+// Then come 16 numbers for the fields (`record`), the label, the row numbers, the source and the
+// body.
 //
 // For each case the program writes `# LABEL`; `frame SIZE BYTES` or `refused N`; and how many bytes
 // of the output past the frame are as they were.
@@ -23,6 +24,7 @@ use lines::print_number;
 use output::count_kept;
 use output::fill;
 use record::record_of;
+use record::version_of;
 use records::Record;
 use writer::Encoded;
 
@@ -52,7 +54,7 @@ fn print_written(record: Record, source: &[u8], rows: &[u32], body: &[u8], out: 
 
 // Reads what follows the numbers of a case, and answers whether it was there.
 fn read_case(
-    head: [u32; 10],
+    head: [u32; 11],
     label: &mut [u8],
     rows: &mut [u32],
     source: &mut [u8],
@@ -71,7 +73,7 @@ fn read_case(
 }
 
 // The label is the first bytes of what is lent for it.
-fn print_case_label(head: [u32; 10], label: &[u8]) {
+fn print_case_label(head: [u32; 11], label: &[u8]) {
     let size = head[0] as usize;
     if size > label.len() {
         return;
@@ -82,7 +84,7 @@ fn print_case_label(head: [u32; 10], label: &[u8]) {
 
 // Prints what is written of a case, and answers whether all of it can be held.
 fn print_case(
-    head: [u32; 10],
+    head: [u32; 11],
     fields: [u32; 16],
     rows: &[u32],
     source: &[u8],
@@ -101,7 +103,7 @@ fn print_case(
     }
     let start = 0;
     print_written(
-        record_of(head[7], head[8], head[9], fields),
+        record_of(head[7], head[8], version_of(head[10]), head[9], fields),
         &source[start..source_end],
         &rows[start..rows_end],
         &body[start..body_end],
@@ -118,9 +120,9 @@ fn print_next(
     body: &mut [u8],
     out: &mut [u8],
 ) -> bool {
-    let mut head = [0u32; 10];
+    let mut head = [0u32; 11];
     let mut fields = [0u32; 16];
-    if !read_numbers(&mut head, 10) {
+    if !read_numbers(&mut head, 11) {
         return false;
     }
     if !read_numbers(&mut fields, 16) {

@@ -13,19 +13,29 @@ use records::Span;
 // The kinds are numbered from 0 in the order of `Record`. The fields `v` are in the order of source
 // document 000, without the map: a byte field is a start and a length, an int32 its 32 bits, and a part
 // of Init its present mark, 0 or 1, before its own fields.
-pub(crate) fn record_of(kind: u32, id: u32, rows: u32, v: [u32; 16]) -> Record {
+pub(crate) fn record_of(kind: u32, id: u32, header_version: u8, rows: u32, v: [u32; 16]) -> Record {
     match kind {
-        0 => Record::Request(request(id, rows, v)),
-        1 => Record::Response(response(id, rows, v)),
-        2 => Record::Init(init(id, rows, v)),
-        3 => Record::Data(Data { id, rows }),
+        0 => Record::Request(request(id, header_version, rows, v)),
+        1 => Record::Response(response(id, header_version, rows, v)),
+        2 => Record::Init(init(id, header_version, rows, v)),
+        3 => Record::Data(Data {
+            id,
+            header_version,
+            rows,
+        }),
         4 => Record::Feedback(Feedback {
             id,
+            header_version,
             window_size_increment: v[0],
             rows,
         }),
-        _ => Record::Close(close(id, rows, v)),
+        _ => Record::Close(close(id, header_version, rows, v)),
     }
+}
+
+// A version is a byte; the input has none above 255.
+pub(crate) fn version_of(number: u32) -> u8 {
+    (number % 256) as u8
 }
 
 fn span(start: u32, len: u32) -> Span {
@@ -36,9 +46,10 @@ fn signed(bits: u32) -> i32 {
     wire_read::low_i32(bits as u64)
 }
 
-fn request(id: u32, rows: u32, v: [u32; 16]) -> Request {
+fn request(id: u32, header_version: u8, rows: u32, v: [u32; 16]) -> Request {
     Request {
         id,
+        header_version,
         version: v[0],
         call_type: v[1],
         request_id: v[2],
@@ -54,9 +65,10 @@ fn request(id: u32, rows: u32, v: [u32; 16]) -> Request {
     }
 }
 
-fn response(id: u32, rows: u32, v: [u32; 16]) -> Response {
+fn response(id: u32, header_version: u8, rows: u32, v: [u32; 16]) -> Response {
     Response {
         id,
+        header_version,
         version: v[0],
         call_type: v[1],
         request_id: v[2],
@@ -71,9 +83,10 @@ fn response(id: u32, rows: u32, v: [u32; 16]) -> Response {
     }
 }
 
-fn init(id: u32, rows: u32, v: [u32; 16]) -> Init {
+fn init(id: u32, header_version: u8, rows: u32, v: [u32; 16]) -> Init {
     Init {
         id,
+        header_version,
         request_meta: RequestMeta {
             present: v[0] == 1,
             caller: span(v[1], v[2]),
@@ -93,9 +106,10 @@ fn init(id: u32, rows: u32, v: [u32; 16]) -> Init {
     }
 }
 
-fn close(id: u32, rows: u32, v: [u32; 16]) -> Close {
+fn close(id: u32, header_version: u8, rows: u32, v: [u32; 16]) -> Close {
     Close {
         id,
+        header_version,
         close_type: signed(v[0]),
         ret: signed(v[1]),
         msg: span(v[2], v[3]),

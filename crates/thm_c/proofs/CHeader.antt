@@ -1,11 +1,11 @@
 -- For a user in C: the judge of a fixed header, and what a header says.
 --
 -- Promised, of any bytes: whatever a call of `trpc_header_parse` gave, if it gave what its contract ensures, then the number returned and
--- the four numbers together say what the header says, or its error code (`header-told`), and the number returned is the one that
+-- the five numbers together say what the header says, or its error code (`header-told`), and the number returned is the one that
 -- `trpc_header_check` returns (`same-code`). Nothing else is known of a call (`proofs/Contracts`).
 -- Not promised: anything of the bytes after the 16, or of a frame that such a header begins.
--- Ruled out: a header that is reported with another type, total, header size or id than it has, and a number of the four that no contract
--- speaks of.
+-- Ruled out: a header that is reported with another type, total, header size, id or version than it has, and a number of the five that no
+-- contract speaks of.
 use Prim.Native.Nat.{ℕ}
 use mathlib.Core.Path.{_≡_, refl, ap, sym, _∙_}
 use mathlib.Core.Bool.{true, false}
@@ -37,8 +37,13 @@ Told (Refused code) = code ≡ 0 → ⊥
 
 back : (p : Parsed) → Told p → headerFrom (parsedC p) ≡ p
 back (Good h) t =
-    ap (λ (y : FrameType). Good (record { «frame_type» = y; total = h .total; «header_size» = h .«header_size»; id = h .id }))
-    (type-back (h .«frame_type»))
+    ap (λ (y : FrameType). Good (record {
+      «frame_type» = y;
+      total = h .total;
+      «header_size» = h .«header_size»;
+      id = h .id;
+      version = h .version;
+    })) (type-back (h .«frame_type»))
 back (Refused code) t = rw (ne-eqb code 0 t) refl
 
 told : (bytes : List ℕ) → Told (parsed bytes)

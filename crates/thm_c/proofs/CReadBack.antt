@@ -2,13 +2,14 @@
 --
 -- Promised, of any call of a writer that returned 0, with numbers of 32 bits, and of a call of the reader of the same kind on the frame
 -- that it wrote, with at least 256 row numbers: if each gave what its contract ensures, the reader returned 0, and its numbers say the same
--- record with the same bytes: kind, id, each number, each present mark, the length and the bytes of each byte field, the rows in their
--- order, the header message, the body and the attachment (`c-read-back`). Of the writer's call only, with any numbers: the message has
--- 65,520 bytes at most, and bytes 9-10 hold its size, or 0 in a stream frame (`c-message-fits`).
+-- record with the same bytes: kind, id, version, each number, each present mark, the length and the bytes of each byte field, the rows in
+-- their order, the header message, the body and the attachment (`c-read-back`). Of the writer's call only, with any numbers: the message
+-- has 65,520 bytes at most, and bytes 9-10 hold its size, or 0 in a stream frame (`c-message-fits`); byte 15 is the low byte of the last
+-- number, and byte 16 is 0 (`c-version-written`).
 -- Not promised: that the starts are the same numbers (in the frame they count from its first byte), nor anything of an output that the
 -- caller changes between the calls.
 -- Ruled out: a writer that returns 0 and writes nothing, an int32 that comes back unsigned, and a length that passes the end of the frame.
-use Prim.Native.Nat.{ℕ, zero, suc, _<_, _≤_, _^_}
+use Prim.Native.Nat.{ℕ, zero, suc, _%_, _<_, _≤_, _^_}
 use mathlib.Core.Path.{_≡_, refl, ap, sym, subst, _∙_}
 use mathlib.Core.Bool.{Bool, cond}
 use mathlib.Core.List.{List, [], _∷_}
@@ -16,6 +17,7 @@ use native.Mathlib.Omega.{arith}
 use borrow.Author.Tests.{eqb-false}
 use lib.Dec.{eqb}
 use lib.ListN.{length, take, drop, getD}
+use Rattle.schema.specs.Schema.{slotCount}
 use Rattle.records.specs.Records.{recordOf, attachmentSizeOf}
 use Rattle.message.specs.Frames.{readFrame, lastBytes}
 use Rattle.schema.specs.declared.Kind.{Kind}
@@ -23,14 +25,14 @@ use Rattle.schema.specs.declared.Kind.the-variants as kinds
 use Rattle.records.specs.declared.Record.{Record}
 use Rattle.message.specs.declared.Answer.{Answer}
 use Rattle.message.specs.declared.Answer.the-variants as answers
-use Rattle.records.specs.Content.{kindOf, recordId, slotsOf}
-use Rattle.records.proofs.Made.{kind-is, id-is}
+use Rattle.records.specs.Content.{kindOf, recordId, recordVersion, slotsOf}
+use Rattle.records.proofs.Made.{kind-is, id-is, version-is}
 use Rattle.writer.specs.Writing.{Writing, refusedWith, wrote, messageOf, frameOf, writeError, written}
 use Rattle.writer.specs.Writing.{errorOf, countOf}
 use Rattle.writer.specs.declared.Encoded.{Encoded}
 use Rattle.writer.specs.declared.Encoded.the-variants.{Frame, Refused}
 use Rattle.bekurapi.specs.Answers.{answerError}
-use Rattle.bekurapi.specs.Numbers.{recordFrom}
+use Rattle.bekurapi.specs.Numbers.{fieldsFrom, recordFrom}
 use Rattle.wire_read.proofs.SignedLaws.{low-small}
 use Rattle.thm_c.proofs.NumbersBack.{reading-back}
 use Rattle.message.specs.Meaning.{allOf, Meaning, says, refused, meaning, answerMeaning, fieldsOf}
@@ -39,14 +41,17 @@ use Rattle.thm_round_trip.specs.MessageFits.{MessageFits}
 use Rattle.thm_round_trip.specs.ReadsBack.{ReadsBack}
 use Rattle.thm_round_trip.proofs.RoundTrip.{round-trip}
 use Rattle.thm_round_trip.proofs.WithoutTwenty.{message-fits}
+use Rattle.thm_round_trip.specs.LastTwo.{LastTwo}
+use Rattle.thm_round_trip.proofs.LastTwoWritten.{last-two-written}
 use Rattle.thm_c.specs.Readings.{CRead, CReads, CReading, wholeOf}
 use Rattle.thm_c.specs.RoundTrip.{CWritten, CWrites, Words, CReadsBack}
 use Rattle.laws.proofs.Booleans.{choose}
 use Rattle.thm_c.proofs.CReading.{header-part, body-part, attachment-part}
 
 -- ---- the record of a kind from its numbers
-module _ (id : ℕ) (l : List ℕ) (rows : ℕ) where
-  attachment-size-is : (k : Kind) → attachmentSizeOf (kindOf (recordOf k id l rows)) (slotsOf (recordOf k id l rows)) ≡ attachmentSizeOf k l
+module _ (id version : ℕ) (l : List ℕ) (rows : ℕ) where
+  attachment-size-is : (k : Kind)
+      → attachmentSizeOf (kindOf (recordOf k id version l rows)) (slotsOf (recordOf k id version l rows)) ≡ attachmentSizeOf k l
   unfolding recordOf kindOf slotsOf attachmentSizeOf
   attachment-size-is kinds.Request = refl
   attachment-size-is kinds.Response = refl
@@ -66,16 +71,22 @@ words-drop zero l w = w
 words-drop (suc n) [] w = tt
 words-drop (suc n) (x ∷ l) w = words-drop n l (w .1)
 
-slots-in-range : (source : List ℕ) (k : Kind) (id : ℕ) (l : List ℕ) (rows : ℕ) → ((i : ℕ) → getD l i 0 < 2 ^ 32)
-    → InRange (fieldsOf source (recordOf k id l rows))
+words-take : (n : ℕ) (l : List ℕ) → Words l → Words (take n l)
+words-take zero l w = tt
+words-take (suc n) [] w = tt
+words-take (suc n) (x ∷ l) w = (w .0, words-take n l (w .1))
+
+slots-in-range : (source : List ℕ) (k : Kind) (id version : ℕ) (l : List ℕ) (rows : ℕ) → ((i : ℕ) → getD l i 0 < 2 ^ 32)
+    → InRange (fieldsOf source (recordOf k id version l rows))
 unfolding recordOf fieldsOf
-slots-in-range source kinds.Request id l rows w = (w 0, (w 1, (w 2, (w 3, (w 10, (w 11, (w 12, (w 13, tt))))))))
-slots-in-range source kinds.Response id l rows w =
+slots-in-range source kinds.Request id version l rows w = (w 0, (w 1, (w 2, (w 3, (w 10, (w 11, (w 12, (w 13, tt))))))))
+slots-in-range source kinds.Response id version l rows w =
     (w 0, (w 1, (w 2, (low-small (getD l 3 0), (low-small (getD l 4 0), (w 7, (w 8, (w 9, (w 10, tt)))))))))
-slots-in-range source kinds.Init id l rows w = (w 7, (low-small (getD l 9 0), (w 12, (w 13, (w 14, tt)))))
-slots-in-range source kinds.Data id l rows w = tt
-slots-in-range source kinds.Feedback id l rows w = (w 0, tt)
-slots-in-range source kinds.Close id l rows w = (low-small (getD l 0 0), (low-small (getD l 1 0), (w 4, (low-small (getD l 5 0), tt))))
+slots-in-range source kinds.Init id version l rows w = (w 7, (low-small (getD l 9 0), (w 12, (w 13, (w 14, tt)))))
+slots-in-range source kinds.Data id version l rows w = tt
+slots-in-range source kinds.Feedback id version l rows w = (w 0, tt)
+slots-in-range source kinds.Close id version l rows w =
+    (low-small (getD l 0 0), (low-small (getD l 1 0), (w 4, (low-small (getD l 5 0), tt))))
 
 -- ---- what 0 says of a call of the writer
 abbrev Coded : Encoded → Type 0
@@ -109,13 +120,25 @@ module _ (kind : Kind) (numbers source rows body out : List ℕ) (w : CWritten) 
   pub c-message-fits : MessageFits kind (messageOf lent-record source rows) (take (w .size) (w .out))
   c-message-fits =
       subst (λ (k : Kind). MessageFits k (messageOf lent-record source rows) (take (w .size) (w .out)))
-      (kind-is (getD numbers 0 0) (drop 8 numbers) (getD numbers 1 0) kind)
+      (kind-is (getD numbers 0 0) (getD numbers 24 0 % 256) (fieldsFrom numbers) (getD numbers 1 0) kind)
       (message-fits lent-record source rows body out (record { answer = written lent-record source rows body out .answer; output = w .out })
       (refl, writes .output-is) (w .size) answer-is)
 
+  pub c-version-written : LastTwo (getD numbers 24 0 % 256) (take (w .size) (w .out))
+  c-version-written =
+      subst (λ (v : ℕ). LastTwo v (take (w .size) (w .out)))
+      (ap (λ (v : ℕ). v % 256) (version-is (getD numbers 0 0) (getD numbers 24 0 % 256) (fieldsFrom numbers) (getD numbers 1 0) kind)
+      ∙ again (getD numbers 24 0))
+      (last-two-written lent-record source rows body out
+      (record { answer = written lent-record source rows body out .answer; output = w .out })
+      (refl, writes .output-is) (w .size) answer-is)
+    where
+      again : (n : ℕ) → n % 256 % 256 ≡ n % 256
+      again n = omega arith
+
 -- ---- an answer that says something is a record
 abbrev SaysRecord : Meaning → Type 0
-SaysRecord (says k id fields rows) = Unit {0}
+SaysRecord (says k id version fields rows) = Unit {0}
 SaysRecord (refused code) = ⊥
 
 is-read : (a : Answer) (source numbers : List ℕ) → SaysRecord (answerMeaning a source numbers) → (r : Record) × (a ≡ answers.Read r)
@@ -133,19 +156,26 @@ module _ (kind : Kind) (numbers source rows body out lent : List ℕ) (words : W
   r = recordFrom kind numbers
 
   abbrev fields : List ℕ
-  fields = drop 8 numbers
+  fields = fieldsFrom numbers
 
   abbrev id : ℕ
   id = getD numbers 0 0
+
+  abbrev version : ℕ
+  version = getD numbers 24 0 % 256
 
   abbrev count : ℕ
   count = getD numbers 1 0
 
   id-small : recordId r < 2 ^ 32
-  id-small = subst (λ (n : ℕ). n < 2 ^ 32) (sym (id-is id fields count kind)) (word-at numbers words 0)
+  id-small = subst (λ (n : ℕ). n < 2 ^ 32) (sym (id-is id version fields count kind)) (word-at numbers words 0)
+
+  version-small : recordVersion r < 2 ^ 8
+  version-small = subst (λ (n : ℕ). n < 2 ^ 8) (sym (version-is id version fields count kind)) (omega arith)
 
   fields-small : InRange (fieldsOf source r)
-  fields-small = slots-in-range source kind id fields count (word-at fields (words-drop 8 numbers words))
+  fields-small = slots-in-range source kind id version fields count
+      (word-at fields (words-take slotCount (drop 8 numbers) (words-drop 8 numbers words)))
 
   module _ (w : CWritten) (writes : CWrites kind numbers source rows body out w) (done : w .code ≡ 0) where
     abbrev frame : List ℕ
@@ -154,12 +184,12 @@ module _ (kind : Kind) (numbers source rows body out lent : List ℕ) (words : W
     back : ReadsBack r source rows body frame lent
     back =
         subst (λ (o : List ℕ). ReadsBack r source rows body (take (w .size) o) lent) (sym (writes .output-is))
-        (round-trip r source rows body out lent (w .size) id-small fields-small long
+        (round-trip r source rows body out lent (w .size) id-small version-small fields-small long
         (answer-is kind numbers source rows body out w writes done))
 
     -- the reading as the record's own kind is that as the kind named
     as-kind : {A : Type 0} (P : Kind → A) → P kind ≡ P (kindOf r)
-    as-kind P = ap P (sym (kind-is id fields count kind))
+    as-kind P = ap P (sym (kind-is id version fields count kind))
 
     abbrev said-as : Kind → Meaning
     said-as k = answerMeaning (readFrame k frame lent .answer) frame (readFrame k frame lent .rows)
@@ -186,7 +216,7 @@ module _ (kind : Kind) (numbers source rows body out lent : List ℕ) (words : W
           attachment-is =
               attachment-part kind frame lent x reads
               ∙ ap allOf (as-kind (λ k. readFrame k frame lent .attachment) ∙ back .attachment-is ∙ ap (λ (n : ℕ). lastBytes n body)
-              (attachment-size-is id fields count kind));
+              (attachment-size-is id version fields count kind));
         }
 
 pub c-read-back : (kind : Kind) (numbers source rows body out lent : List ℕ) (w : CWritten) (x : CRead)

@@ -1,11 +1,12 @@
 -- For a user in C: what a reader gave of a frame, as a record and as bytes.
 --
 -- Promised, of any call of a reader, for any kind, frame and row numbers: if it gave what its contract ensures, then the number returned
--- and the 24 numbers together say the record that the frame has, or the error code (`says`); the three starts and lengths name header, body
--- and attachment, each with its own length; and after a refusal all 24 are 0 (`zero`).
+-- and the 25 numbers together say the record that the frame has, or the error code (`says`); the three starts and lengths name header, body
+-- and attachment, each with its own length; after a refusal all 25 are 0 (`zero`); and where 0 is returned the last is the frame's version
+-- (`version`).
 -- Not promised: anything of a frame that the caller changes between the call and looking at its bytes.
 -- Ruled out: a record that is said with another kind's fields, a part of the right length at another place, a length that passes the end of
--- the frame, and a refusal that leaves numbers of an earlier record.
+-- the frame, a refusal that leaves numbers of an earlier record, and a version beside which the unused bytes are not 0.
 use Prim.Native.Nat.{ℕ, _+_, _-_}
 use mathlib.Core.Path.{_≡_, refl, ap, ap₂, sym, _∙_}
 use mathlib.Core.Bool.{cond, _&&_}
@@ -14,7 +15,7 @@ use native.Mathlib.Omega.{arith}
 use borrow.Author.Tests.{eqb-false, eq-eqb, ne-eqb}
 use lib.Dec.{eqb, ltb, leb}
 use lib.ListN.{length, take, getD, replicate}
-use Rattle.fixed_header.specs.Header.{headerError, totalOf}
+use Rattle.fixed_header.specs.Header.{headerError, totalOf, versionOf}
 use Rattle.decoder.specs.Rows.{rowNumbers}
 use Rattle.decoder.specs.Fields.{Result, ok, refused, readMessage}
 use Rattle.decoder.proofs.Results.{Sound, message-sound}
@@ -31,7 +32,7 @@ use Rattle.message.specs.declared.Located.{Located}
 use Rattle.message.proofs.SpansStand.{spans-stand}
 use Rattle.bekurapi.specs.Answers.{answerError}
 use Rattle.bekurapi.specs.Numbers.{answerId, answerRows, answerSlots, numbersOf, recordFrom}
-use Rattle.thm_c.proofs.NumbersBack.{reading-back}
+use Rattle.thm_c.proofs.NumbersBack.{reading-back, version-read}
 use Rattle.message.specs.Meaning.{Bytes, bytesFrom, allOf}
 use Rattle.thm_c.specs.Readings.{CRead, CReads, partAt, CReading, saidBy, wholeOf, CReadOf}
 use Rattle.laws.proofs.Booleans.{choose}
@@ -72,7 +73,7 @@ spans-all f l s size e =
 -- ---- the numbers of a refusal
 zero-numbers : (l : Located) (code : ℕ) → l .answer ≡ answers.Refused code → l .header ≡ spanFrom 0 0 → l .body ≡ spanFrom 0 0
     → l .attachment ≡ spanFrom 0 0
-    → numbersOf l ≡ replicate 24 0
+    → numbersOf l ≡ replicate 25 0
 zero-numbers l code e h b a = rw (e, h, b, a) refl
 
 module _ (kind : Kind) (frame lent : List ℕ) where
@@ -95,11 +96,16 @@ module _ (kind : Kind) (frame lent : List ℕ) where
         let is : x .code ≡ code = reads .code-is ∙ ap answerError e in
         rw (is, ne-eqb code 0 (b .0)) refl
 
-    zeros : (a : Answer) → given .answer ≡ a → BareBy a given → (x .code ≡ 0 → ⊥) → x .numbers ≡ replicate 24 0
+    zeros : (a : Answer) → given .answer ≡ a → BareBy a given → (x .code ≡ 0 → ⊥) → x .numbers ≡ replicate 25 0
     zeros (answers.Read r) e b z = absurd (z (reads .code-is ∙ ap answerError e))
     zeros (answers.Refused code) e b z =
         reads .numbers-are
         ∙ zero-numbers spans code e (rw (b .1) refl) (rw (b .2) refl) (rw (b .3) refl)
+
+    version-in : (a : Answer) → given .answer ≡ a → BareBy a given → x .code ≡ 0 → getD (x .numbers) 24 0 ≡ versionOf frame
+    version-in (answers.Read r) e b z =
+        ap (λ (ns : List ℕ). getD ns 24 0) (reads .numbers-are) ∙ version-read kind frame lent (length frame) r e
+    version-in (answers.Refused code) e b z = absurd (b .0 (sym (reads .code-is ∙ ap answerError e) ∙ z))
 
     part : (place : ℕ) (l : List ℕ) (s : Span) → partAt frame (numbersOf spans) place ≡ bytesFrom frame (s .start) (s .len)
         → s .len ≡ length l → bytesAt frame s ≡ l
@@ -121,6 +127,7 @@ module _ (kind : Kind) (frame lent : List ℕ) where
           numbers = reads;
           says = whole (answer-is (given .answer) refl (bare kind frame lent)) header-part body-part attachment-part (reads .rows-are);
           zero = zeros (given .answer) refl (bare kind frame lent);
+          version = version-in (given .answer) refl (bare kind frame lent);
         }
       where
         whole : {a b : Answer} {h i c d t u : Bytes} {r s : List ℕ} → a ≡ b → h ≡ i → c ≡ d → t ≡ u → r ≡ s

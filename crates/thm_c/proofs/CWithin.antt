@@ -5,12 +5,13 @@
 -- and an empty one is 0, 0. It holds whatever the call returned: after a refusal all of them are 0, 0.
 -- Not promised: which bytes are there (`read-of` says it), and anything of the row numbers past the rows that are counted.
 -- Ruled out: a length that passes the end of the frame, and an end given for a length.
-use Prim.Native.Nat.{ℕ}
+use Prim.Native.Nat.{ℕ, _%_}
 use mathlib.Core.Path.{_≡_, refl, ap, sym, subst, _∙_}
-use mathlib.Core.List.{List}
-use lib.ListN.{length}
+use mathlib.Core.List.{List, [], _∷_, _++_}
+use lib.ListN.{length, take, getD}
 use Rattle.decoder.specs.Rows.{rowsIn}
 use Rattle.decoder.specs.Fields.{blank}
+use Rattle.schema.specs.Schema.{slotCount}
 use Rattle.records.specs.Records.{recordOf}
 use Rattle.message.specs.Frames.{Reading, readFrame}
 use Rattle.message.specs.Spans.{spansOf as located}
@@ -21,7 +22,7 @@ use Rattle.message.specs.declared.Answer.the-variants as answers
 use Rattle.message.specs.declared.Located.{Located}
 use Rattle.records.specs.Content.{rowCount}
 use Rattle.records.proofs.Made.{count-is}
-use Rattle.bekurapi.specs.Numbers.{answerId, answerRows, answerSlots, numbersOf, recordFrom}
+use Rattle.bekurapi.specs.Numbers.{answerId, answerVersion, answerRows, answerSlots, numbersOf, recordFrom}
 use Rattle.thm_c.proofs.NumbersBack.{reading-back}
 use Rattle.thm_round_trip.specs.Refusals.{recordSpans}
 use Rattle.refusals.specs.Grounds.{Every}
@@ -38,11 +39,11 @@ module _ (frame : List ℕ) (kind : Kind) where
 
   -- "A refused record .. is all zero"
   zero-handed : (code : ℕ) (rows : List ℕ)
-      → Handed rows (recordOf kind (answerId (answers.Refused code)) (answerSlots (answers.Refused code))
-      (answerRows (answers.Refused code)))
+      → Handed rows (recordOf kind (answerId (answers.Refused code)) (answerVersion (answers.Refused code))
+      (answerSlots (answers.Refused code)) (answerRows (answers.Refused code)))
   unfolding rowsIn
   zero-handed code rows =
-      (record-lies frame kind 0 (blank .slots) 0 (blank-lies frame kind), rw (count-is 0 (blank .slots) 0 kind) tt)
+      (record-lies frame kind 0 0 (blank .slots) 0 (blank-lies frame kind), rw (count-is 0 0 (blank .slots) 0 kind) tt)
 
   module _ (lent : List ℕ) where
     abbrev given : Reading
@@ -57,7 +58,8 @@ module _ (frame : List ℕ) (kind : Kind) where
     handed (answers.Read r) e fields rows =
         subst (Handed (given .rows)) (sym (reading-back kind frame lent (length frame) r e)) (fields, rows)
     handed (answers.Refused code) e fields rows =
-        subst (λ (a : Answer). Handed (given .rows) (recordOf kind (answerId a) (answerSlots a) (answerRows a))) (sym e)
+        subst (λ (a : Answer). Handed (given .rows) (recordOf kind (answerId a) (getD (answerSlots a ++ answerVersion a ∷ []) 16 0 % 256)
+        (take slotCount (answerSlots a ++ answerVersion a ∷ [])) (answerRows a))) (sym e)
         (zero-handed code (given .rows))
 
     numbers-within : ReadWithin frame (locatedFrom kind (numbersOf gave)) (given .rows)

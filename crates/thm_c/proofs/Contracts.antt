@@ -44,13 +44,13 @@ module _ {M : Type 1} (𝓤 : URA M) (H : Heap 𝓤) (A : Atoms 𝓤) (mem : Mem
       ≡ fact 𝓤 (CChecks (now bytes) code)
   trpc-header-check-ensures bytes code = refl
 
-  pub trpc-header-parse-ensures : (bytes : RefT (List ℕ)) (frame-type total header-size id : RefT ℕ) (x : CParsed)
-      → header-parse.clauses 𝓤 H A mem run (a, (b, (c, (d, (e, tt)))))
-      (bytes, (frame-type, (total, (header-size, (id, tt))))) .ensures tt (x .code)
-      (atExit header-parse.ended (a, (b, (c, (d, (e, tt))))) (bytes, (frame-type, (total, (header-size, (id, tt)))))
-      (tt, (x .frame-type, (x .total, (x .header-size, (x .id, tt))))))
+  pub trpc-header-parse-ensures : (bytes : RefT (List ℕ)) (frame-type total header-size id version : RefT ℕ) (x : CParsed)
+      → header-parse.clauses 𝓤 H A mem run (a, (b, (c, (d, (e, (f, tt))))))
+      (bytes, (frame-type, (total, (header-size, (id, (version, tt)))))) .ensures tt (x .code)
+      (atExit header-parse.ended (a, (b, (c, (d, (e, (f, tt)))))) (bytes, (frame-type, (total, (header-size, (id, (version, tt))))))
+      (tt, (x .frame-type, (x .total, (x .header-size, (x .id, (x .version, tt)))))))
       ≡ fact 𝓤 (CParses (now bytes) x)
-  trpc-header-parse-ensures bytes frame-type total header-size id x = refl
+  trpc-header-parse-ensures bytes frame-type total header-size id version x = refl
 
   pub trpc-deframe-ensures : (held error : RefT ℕ) (buffer piece : RefT (List ℕ)) (taken size : RefT ℕ) (x : CDeframed)
       → deframe.clauses 𝓤 H A mem run (a, (b, (c, (d, (e, (f, tt))))))

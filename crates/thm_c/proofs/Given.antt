@@ -16,12 +16,12 @@ use Rattle.thm_c.specs.RoundTrip.{CWritten, CWrites}
 use Rattle.thm_c.specs.Entries.{parsedC, deframedC, finishedC, readC, writtenC}
 
 pub all-parsed : (bytes : List ℕ) (x : CParsed) → CParses bytes x → x ≡ parsedC (parsed bytes)
-all-parsed bytes x is = by (is .code-is) (is .type-is) (is .total-is) (is .header-size-is) (is .id-is)
+all-parsed bytes x is = by (is .code-is) (is .type-is) (is .total-is) (is .header-size-is) (is .id-is) (is .version-is)
   where
-    by : {code frame-type total header-size id : ℕ} → x .code ≡ code → x .frame-type ≡ frame-type → x .total ≡ total
-        → x .header-size ≡ header-size → x .id ≡ id
-        → x ≡ record { code = code; frame-type = frame-type; total = total; header-size = header-size; id = id }
-    by a b c d e = rw (← a, ← b, ← c, ← d, ← e)
+    by : {code frame-type total header-size id version : ℕ} → x .code ≡ code → x .frame-type ≡ frame-type → x .total ≡ total
+        → x .header-size ≡ header-size → x .id ≡ id → x .version ≡ version
+        → x ≡ record { code = code; frame-type = frame-type; total = total; header-size = header-size; id = id; version = version }
+    by a b c d e f = rw (← a, ← b, ← c, ← d, ← e, ← f)
 
 pub all-deframed : (held error : ℕ) (buffer piece : List ℕ) (x : CDeframed) → CDeframes held error buffer piece x
     → x ≡ deframedC (deframedFrom held error buffer piece)

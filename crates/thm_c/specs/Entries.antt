@@ -5,7 +5,7 @@
 use Prim.Native.Nat.{ℕ}
 use mathlib.Core.List.{List}
 use lib.ListN.{length, getD}
-use Rattle.fixed_header.specs.Header.{totalOf, headerSizeOf, idOf, typeOf}
+use Rattle.fixed_header.specs.Header.{totalOf, headerSizeOf, idOf, versionOf, typeOf}
 use Rattle.fixed_header.specs.declared.Parsed.{Parsed}
 use Rattle.fixed_header.specs.declared.Parsed.the-variants as headers
 use Rattle.deframer.specs.Deframe.{Out}
@@ -29,7 +29,7 @@ use Rattle.thm_refusals.specs.Reader.{readEntry}
 
 -- ---- `trpc_header_check`: `headerCheck` of `thm_refusals`
 
--- ---- `trpc_header_parse`: "judge 9, then 3 to 8"; all are 0 after a refusal
+-- ---- `trpc_header_parse`: "judge 9, then 3 to 8", without 8; all are 0 after a refusal
 abbrev pub parsedC : Parsed → CParsed
 parsedC p =
     record {
@@ -38,6 +38,7 @@ parsedC p =
       total = headerGiven p .total;
       header-size = headerGiven p .«header_size»;
       id = headerGiven p .id;
+      version = headerGiven p .version;
     }
 
 abbrev pub parsedSays : Parsed → Verdict
@@ -56,13 +57,14 @@ parseEntry h =
         total = totalOf h;
         «header_size» = headerSizeOf h;
         id = idOf h;
+        version = versionOf h;
       });
     }
 
 abbrev pub cParseEntry : List ℕ → Entry CParsed
 cParseEntry h = retold parsedC (λ d. d .code) (parseEntry h)
 
--- ---- `trpc_deframe`: "1, 2, a held refusal, then 3 to 8 rising"
+-- ---- `trpc_deframe`: "1, 2, a held refusal, then 3 to 8 rising", without 8
 abbrev pub deframedC : Out → CDeframed
 deframedC o =
     record {
@@ -84,7 +86,8 @@ finishedC e = record { code = endError e; short-by = endShort e }
 abbrev pub cFinishEntry : (held error : ℕ) → (buffer : List ℕ) → Entry CFinished
 cFinishEntry held error buffer = retold finishedC (λ f. f .code) (finishEntry (deframerOf held error) buffer)
 
--- ---- `trpc_read_request` to `trpc_read_close`: "16; fewer than 16 bytes is 9; 3 to 8; 9; then fields from left to right, ..; 15 last"
+-- ---- `trpc_read_request` to `trpc_read_close`: "16; fewer than 16 bytes is 9; 3 to 8; 9; then fields from left to right, ..; 15 last",
+-- without 8
 abbrev pub readC : (frame : List ℕ) → Reading → CRead
 readC f x = record { code = answerError (x .answer); rows = x .rows; numbers = numbersOf (spansOf x (length f)) }
 

@@ -12,13 +12,14 @@ use Rattle.fixed_header.specs.declared.Parsed.{Parsed}
 use Rattle.fixed_header.specs.declared.Parsed.the-variants.{Good, Refused}
 use Rattle.bekurapi.specs.Answers.{ParsedAs}
 
--- what C has after a call of `trpc_header_parse`: the number returned, and what is in the four that were lent
+-- what C has after a call of `trpc_header_parse`: the number returned, and what is in the five that were lent
 pub record CParsed : Type 0 where
   pub code : ℕ
   pub frame-type : ℕ
   pub total : ℕ
   pub header-size : ℕ
   pub id : ℕ
+  pub version : ℕ
 
 -- ---- the `ensures` of each function, of what a call of it gave
 
@@ -27,7 +28,7 @@ abbrev pub CChecks : (bytes : List ℕ) (code : ℕ) → Type 0
 CChecks bytes code = code ≡ headerError bytes
 
 abbrev pub CParses : (bytes : List ℕ) → CParsed → Type 0
-CParses bytes x = ParsedAs bytes (x .code) (x .frame-type) (x .total) (x .header-size) (x .id)
+CParses bytes x = ParsedAs bytes (x .code) (x .frame-type) (x .total) (x .header-size) (x .id) (x .version)
 
 -- ---- what the numbers say
 
@@ -39,5 +40,11 @@ typeFrom n = cond (eqb n 0) Unary (cond (eqb n 1) Init (cond (eqb n 2) Data (con
 abbrev pub headerFrom : CParsed → Parsed
 headerFrom x =
     cond (eqb (x .code) 0)
-    (Good (record { «frame_type» = typeFrom (x .frame-type); total = x .total; «header_size» = x .header-size; id = x .id }))
+    (Good (record {
+      «frame_type» = typeFrom (x .frame-type);
+      total = x .total;
+      «header_size» = x .header-size;
+      id = x .id;
+      version = x .version;
+    }))
     (Refused (x .code))

@@ -6,10 +6,12 @@ use mathlib.Core.List.{List}
 use lib.Dec.{eqb}
 use lib.Signed.{mag}
 use lib.ListN.{getD, replicate}
+use Rattle.fixed_header.specs.Header.{versionOf}
 use Rattle.message.specs.Frames.{Reading, readFrame}
 use Rattle.schema.specs.declared.Kind.{Kind}
 use Rattle.records.specs.declared.Record.{Record}
 use Rattle.records.specs.declared.Record.the-variants as records
+use Rattle.records.specs.Content.{recordVersion}
 use Rattle.message.specs.declared.Answer.{Answer}
 use Rattle.message.specs.declared.Answer.the-variants as answers
 use Rattle.bekurapi.specs.Kinds.{ReadAs}
@@ -40,7 +42,7 @@ pub record CReading : Type 0 where
   pub attachment : Bytes
   pub rows : List ℕ
 
--- the error code, or the record; "id, row count, start and length of header, body and attachment", then the fields
+-- the error code, or the record; "id, row count, start and length of header, body and attachment", then the fields and the version
 abbrev pub saidBy : Kind → (frame : List ℕ) → CRead → CReading
 saidBy kind frame x =
     record {
@@ -63,7 +65,9 @@ pub record CReadOf (kind : Kind) (frame lent : List ℕ) (x : CRead) : Type 0 wh
   -- the record or the error code, header, body and attachment as bytes of the frame, and the row numbers
   pub says : saidBy kind frame x ≡ wholeOf (readFrame kind frame lent)
   -- "A refused record .. is all zero", and the parts are "empty if refused"
-  pub zero : (x .code ≡ 0 → ⊥) → x .numbers ≡ replicate 24 0
+  pub zero : (x .code ≡ 0 → ⊥) → x .numbers ≡ replicate 25 0
+  -- "Every record carries the version": the last number is byte 15, so its unused bytes are 0
+  pub version : x .code ≡ 0 → getD (x .numbers) 24 0 ≡ versionOf frame
 
 -- A record whose int32 fields have 32 bits, as those of every record in a program have: `mag` is n for n and for -1 - n.
 abbrev pub SignedFit : Record → Type 0
@@ -73,3 +77,7 @@ SignedFit (records.Init r) = mag (r .«response_meta» .ret) < 2 ^ 31
 SignedFit (records.Data r) = Unit {0}
 SignedFit (records.Feedback r) = Unit {0}
 SignedFit (records.Close r) = (mag (r .«close_type») < 2 ^ 31) × (mag (r .ret) < 2 ^ 31) × (mag (r .«func_ret») < 2 ^ 31)
+
+-- and a version of a byte
+abbrev pub Fit : Record → Type 0
+Fit r = (recordVersion r < 2 ^ 8) × SignedFit r

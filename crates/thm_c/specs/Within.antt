@@ -7,7 +7,7 @@ use Rattle.message.specs.declared.Answer.the-variants as answers
 use Rattle.message.specs.declared.Located.{Located}
 use Rattle.bekurapi.specs.Numbers.{recordFrom}
 
--- "id, row count, start and length of header, body and attachment", then the fields
+-- "id, row count, start and length of header, body and attachment", then the fields and the version
 abbrev pub locatedFrom : Kind → (numbers : List ℕ) → Located
 locatedFrom kind numbers =
     record {

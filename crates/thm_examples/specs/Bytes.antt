@@ -37,11 +37,12 @@ streamFrame streamType message = fixedHeader 0x09 0x30 1 streamType (small (16 +
 abbrev pub none : Span
 none = record { start = 0; len = 0 }
 
-abbrev pub request : (timeout : ℕ) → (func : Span) → (rows : ℕ) → Record
-request timeout func rows =
+abbrev pub requestOf : (header-version version timeout : ℕ) → (func : Span) → (rows : ℕ) → Record
+requestOf header-version version timeout func rows =
     Request (record {
       id = 7;
-      version = 0;
+      «header_version» = header-version;
+      version = version;
       «call_type» = 0;
       «request_id» = 0;
       timeout = timeout;
@@ -55,10 +56,14 @@ request timeout func rows =
       rows = rows;
     })
 
+abbrev pub request : (timeout : ℕ) → (func : Span) → (rows : ℕ) → Record
+request timeout func rows = requestOf 0 0 timeout func rows
+
 abbrev pub response : (ret : ℤ) → (attachment : ℕ) → Record
 response ret attachment =
     Response (record {
       id = 7;
+      «header_version» = 0;
       version = 0;
       «call_type» = 0;
       «request_id» = 0;
@@ -73,7 +78,7 @@ response ret attachment =
     })
 
 abbrev pub feedback : (increment : ℕ) → Record
-feedback increment = Feedback (record { id = 7; «window_size_increment» = increment; rows = 0 })
+feedback increment = Feedback (record { id = 7; «header_version» = 0; «window_size_increment» = increment; rows = 0 })
 
 -- a record with its header, its body, its attachment and the row numbers up to the last that is not 0
 abbrev pub whole : Record → (header body attachment rows : List ℕ) → Reading

@@ -1,5 +1,5 @@
 -- Document 01, "Checked examples": "Those marked * are shown to hold for the definitions themselves, as rows of a single table under a
--- single statement."
+-- single statement." And three rows of document 02, P2.
 use Prim.Native.Nat.{ℕ}
 use mathlib.Core.Bool.{true, false}
 use mathlib.Core.List.{List, [], _∷_, _++_}
@@ -10,8 +10,8 @@ use Rattle.deframer.specs.declared.End.the-variants as end
 use Rattle.schema.specs.declared.Kind.the-variants as kinds
 use Rattle.records.specs.declared.Record.the-variants.{Init}
 use Rattle.thm_examples.specs.Rows.{Row, stream, judged, says, reads, takes}
-use Rattle.thm_examples.specs.Bytes.{fixedHeader, small, unary, streamed, unaryFrame, streamFrame, none, request, response}
-use Rattle.thm_examples.specs.Bytes.{feedback, whole, plain, refused, arriving, atZero}
+use Rattle.thm_examples.specs.Bytes.{fixedHeader, small, unary, streamed, unaryFrame, streamFrame, none, requestOf, request}
+use Rattle.thm_examples.specs.Bytes.{response, feedback, whole, plain, refused, arriving, atZero}
 
 -- a frame that is only a header message
 abbrev pub asRequest : (header : List ℕ) → (timeout : ℕ) → Row
@@ -29,8 +29,15 @@ table =
     stream [] [] end.Clean
     -- "09 30 00 00 00 00 00 10 00 00 00 00 00 07 00 00: unary, id 7; as a request every message field zero"
     ∷ says (0x09 ∷ 0x30 ∷ 0 ∷ 0 ∷ 0 ∷ 0 ∷ 0 ∷ 0x10 ∷ 0 ∷ 0 ∷ 0 ∷ 0 ∷ 0 ∷ 0x07 ∷ 0 ∷ 0 ∷ [])
-    (record { «frame_type» = types.Unary; total = 16; «header_size» = 0; id = 7 })
+    (record { «frame_type» = types.Unary; total = 16; «header_size» = 0; id = 7; version = 0 })
     ∷ reads kinds.Request (0x09 ∷ 0x30 ∷ 0 ∷ 0 ∷ 0 ∷ 0 ∷ 0 ∷ 0x10 ∷ 0 ∷ 0 ∷ 0 ∷ 0 ∷ 0 ∷ 0x07 ∷ 0 ∷ 0 ∷ []) (plain (request 0 none 0) [])
+    -- document 02, P2: byte 15 is the version, and byte 16 is ignored; the message's `version`, here 2, is another
+    ∷ says (0x09 ∷ 0x30 ∷ 0 ∷ 0 ∷ 0 ∷ 0 ∷ 0 ∷ 0x10 ∷ 0 ∷ 0 ∷ 0 ∷ 0 ∷ 0 ∷ 0x07 ∷ 1 ∷ 0 ∷ [])
+    (record { «frame_type» = types.Unary; total = 16; «header_size» = 0; id = 7; version = 1 })
+    ∷ says (0x09 ∷ 0x30 ∷ 0 ∷ 0 ∷ 0 ∷ 0 ∷ 0 ∷ 0x10 ∷ 0 ∷ 0 ∷ 0 ∷ 0 ∷ 0 ∷ 0x07 ∷ 0 ∷ 0xFF ∷ [])
+    (record { «frame_type» = types.Unary; total = 16; «header_size» = 0; id = 7; version = 0 })
+    ∷ reads kinds.Request (0x09 ∷ 0x30 ∷ 0 ∷ 0 ∷ 0 ∷ 0 ∷ 0 ∷ 0x12 ∷ 0 ∷ 2 ∷ 0 ∷ 0 ∷ 0 ∷ 0x07 ∷ 1 ∷ 0xFF ∷ 0x08 ∷ 0x02 ∷ [])
+    (plain (requestOf 1 2 0 none 0) (0x08 ∷ 0x02 ∷ []))
     -- "the same with total 15: 6; with 00 01 00 00 good; with 00 01 00 01: 6"
     ∷ judged (unary (0 ∷ 0 ∷ 0 ∷ 15 ∷ []) 0) 6
     ∷ judged (unary (0x00 ∷ 0x01 ∷ 0x00 ∷ 0x00 ∷ []) 0) 0
@@ -107,6 +114,7 @@ further =
     (plain
     (Init (record {
       id = 7;
+      «header_version» = 0;
       «request_meta» = record {
         present = true;
         caller = record { start = 20; len = 1 };

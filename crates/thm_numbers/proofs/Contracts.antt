@@ -246,20 +246,21 @@ module _ {M : Type 1} (𝓤 : URA M) (H : Heap 𝓤) (A : Atoms 𝓤) (mem : Mem
       ≡ fact 𝓤 (AsEnsured (calls.write r (now source) (now rows) (now body) (now out) w))
   write-is r source rows body out w = refl
 
-  pub write-slots-is : (kind : Kind) (id : ℕ) (slots : List ℕ) (count : ℕ) (source rows body out : RefT (List ℕ)) (w : Writing)
-      → leftOf (round-trip.write-slots-ensures 𝓤 H A mem run a b c d kind id slots count source rows body out (w .answer) (w .output))
-      ≡ fact 𝓤 (AsEnsured (calls.write-slots kind id slots count (now source) (now rows) (now body) (now out) w))
-  write-slots-is kind id slots count source rows body out w = refl
+  pub write-slots-is : (kind : Kind) (id version : ℕ) (slots : List ℕ) (count : ℕ) (source rows body out : RefT (List ℕ)) (w : Writing)
+      → leftOf (round-trip.write-slots-ensures 𝓤 H A mem run a b c d kind id version slots count source rows body out
+      (w .answer) (w .output))
+      ≡ fact 𝓤 (AsEnsured (calls.write-slots kind id version slots count (now source) (now rows) (now body) (now out) w))
+  write-slots-is kind id version slots count source rows body out w = refl
 
   pub trpc-header-check-is : (bytes : RefT (List ℕ)) (code : ℕ)
       → leftOf (c-calls.trpc-header-check-ensures 𝓤 H A mem run a b c d e f bytes code)
       ≡ fact 𝓤 (AsEnsured (calls.trpc-header-check (now bytes) code))
   trpc-header-check-is bytes code = refl
 
-  pub trpc-header-parse-is : (bytes : RefT (List ℕ)) (frame-type total header-size id : RefT ℕ) (x : CParsed)
-      → leftOf (c-calls.trpc-header-parse-ensures 𝓤 H A mem run a b c d e f bytes frame-type total header-size id x)
+  pub trpc-header-parse-is : (bytes : RefT (List ℕ)) (frame-type total header-size id version : RefT ℕ) (x : CParsed)
+      → leftOf (c-calls.trpc-header-parse-ensures 𝓤 H A mem run a b c d e f bytes frame-type total header-size id version x)
       ≡ fact 𝓤 (AsEnsured (calls.trpc-header-parse (now bytes) x))
-  trpc-header-parse-is bytes frame-type total header-size id x = refl
+  trpc-header-parse-is bytes frame-type total header-size id version x = refl
 
   pub trpc-deframe-is : (held error : RefT ℕ) (buffer piece : RefT (List ℕ)) (taken size : RefT ℕ) (x : CDeframed)
       → leftOf (c-calls.trpc-deframe-ensures 𝓤 H A mem run a b c d e f held error buffer piece taken size x)

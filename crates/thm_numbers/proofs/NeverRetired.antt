@@ -3,11 +3,13 @@
 -- Promised, of any call of any entry in Rattle or C, with any arguments, that gave what its contract ensures:
 --   `given-in-use`    the number in its answer is 0 or a number in use (`refusals`, specs/Numbers).
 --   `never-retired`   it is none of the retired numbers.
+--   `never-eight`     it is not 8. Document 02: "8 is no longer given and isn't used for anything else".
 --   `never-twenty`    it is not 20. Document 02: "20 is never used again."
 -- And of the number in the state that a call of the deframer hands back, in Rattle (`state-number`) and C (`c-state-number`): it is the
 -- answer's number, or the state is as the caller gave it.
 -- Not promised: which of the numbers in use an entry gives when; that is `Exactly`, of each entry.
--- Ruled out: a writer that gives 20 in 19's place, and an end of a stream that hands back whatever number its state holds.
+-- Ruled out: a writer that gives 20 in 19's place, a header check that gives 8 for bytes 15 and 16, and an end of a stream that hands back
+-- whatever number its state holds.
 -- Assumes nothing.
 use Prim.Native.Nat.{ℕ}
 use mathlib.Core.Path.{_≡_, refl, ap, sym, subst, _∙_}
@@ -142,8 +144,8 @@ given-in-use (read kind frame lent x) is =
 given-in-use (content-error kind slots count source numbers body-size code) is =
     subst Usable (sym is) (content-usable kind slots count source numbers body-size)
 given-in-use (write r source numbers body output w) is = write-usable r source numbers body output w is
-given-in-use (write-slots kind id slots count source numbers body output w) is =
-    write-usable (recordOf kind id slots count) source numbers body output w is
+given-in-use (write-slots kind id version slots count source numbers body output w) is =
+    write-usable (recordOf kind id version slots count) source numbers body output w is
 given-in-use (queue-add q j a) is = as-number (a .error) (by-grounds (addEntry q j) refl a (add-gives q j a is))
 given-in-use (queue-take q a) is = as-number (a .error) (by-grounds (takeEntry q) refl a (take-gives q a is))
 given-in-use (queue-cancel q c r a) is = as-number (a .error) (by-grounds (cancelEntry q c r) refl a (cancel-gives q c r a is))
@@ -170,6 +172,9 @@ given-in-use (trpc-queue-cancel q c r s) is =
 
 pub never-retired : (c : AnyCall) → AsEnsured c → Among (numberIn c) retired → ⊥
 never-retired c is = not-retired (numberIn c) (given-in-use c is)
+
+pub never-eight : (c : AnyCall) → AsEnsured c → numberIn c ≡ 8 → ⊥
+never-eight c is eight = never-retired c is (subst (λ (n : ℕ). Among n retired) (sym eight) (is-in 8 retired refl))
 
 pub never-twenty : (c : AnyCall) → AsEnsured c → numberIn c ≡ 20 → ⊥
 never-twenty c is twenty = never-retired c is (subst (λ (n : ℕ). Among n retired) (sym twenty) (is-in 20 retired refl))

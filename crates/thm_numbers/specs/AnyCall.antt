@@ -120,7 +120,7 @@ pub data AnyCall : Type 0 where
   content-error : (kind : Kind) (slots : List ℕ) (count : ℕ) (source numbers : List ℕ) (body-size code : ℕ) → AnyCall
   -- `writer`
   write : (r : Record) (source numbers body output : List ℕ) (w : Writing) → AnyCall
-  write-slots : (kind : Kind) (id : ℕ) (slots : List ℕ) (count : ℕ) (source numbers body output : List ℕ) (w : Writing) → AnyCall
+  write-slots : (kind : Kind) (id version : ℕ) (slots : List ℕ) (count : ℕ) (source numbers body output : List ℕ) (w : Writing) → AnyCall
   -- `queue`
   queue-add : (q : Queue) (j : Job) (a : Added) → AnyCall
   queue-take : (q : Queue) (a : Removed) → AnyCall
@@ -161,8 +161,8 @@ AsEnsured (read kind frame lent x) = Reads kind frame lent x
 AsEnsured (content-error kind slots count source numbers body-size code) =
     code ≡ contentError kind slots count source numbers body-size
 AsEnsured (write r source numbers body output w) = Writes r source numbers body output w
-AsEnsured (write-slots kind id slots count source numbers body output w) =
-    Writes (recordOf kind id slots count) source numbers body output w
+AsEnsured (write-slots kind id version slots count source numbers body output w) =
+    Writes (recordOf kind id version slots count) source numbers body output w
 AsEnsured (queue-add q j a) = a ≡ added q j
 AsEnsured (queue-take q a) = a ≡ taken q
 AsEnsured (queue-cancel q connection request a) = a ≡ cancelled q connection request
@@ -199,7 +199,7 @@ numberIn (read-spans kind frame lent x rows) = numberOf (answerSays (x .answer))
 numberIn (read kind frame lent x) = numberOf (answerSays (x .answer))
 numberIn (content-error kind slots count source numbers body-size code) = code
 numberIn (write r source numbers body output w) = numberOf (encodedSays (w .answer))
-numberIn (write-slots kind id slots count source numbers body output w) = numberOf (encodedSays (w .answer))
+numberIn (write-slots kind id version slots count source numbers body output w) = numberOf (encodedSays (w .answer))
 numberIn (queue-add q j a) = a .error
 numberIn (queue-take q a) = a .error
 numberIn (queue-cancel q connection request a) = a .error

@@ -1,6 +1,6 @@
 -- For a user: when `deframe` and `finish` give which number. `deframe-gives` and `finish-gives` are of any call, by its contract only.
 --
--- Promised, for any state, buffer and piece: 1, 2, a held refusal and, from `deframe`, 3 to 8, each exactly when its ground holds and none
+-- Promised, for any state, buffer and piece: 1, 2, a held refusal and, from `deframe`, 3 to 7, each exactly when its ground holds and none
 -- before it in the order does; the work where none holds; and the state, the count taken and the whole buffer afterwards, by either.
 -- Not promised: anything over several calls, which `thm_stream` says.
 -- Ruled out: a deframer that refuses everything, one that always wants more, and one that gives 2 where the buffer is small, too.
@@ -52,7 +52,7 @@ module _ (state : Deframer) (buffer : List ℕ) where
       (λ g. inr (inr (g .0, g .1 .0, g .1 .1 .0, g .1 .1 .1)))
       (judged n)
       (each (equal (state .held) 16)
-      (each (equal (headerError first) (state .error)) (each (up-to 3 (state .error)) (up-to (state .error) 8)))))
+      (each (equal (headerError first) (state .error)) (each (up-to 3 (state .error)) (up-to (state .error) 7)))))
     where
       more : state .error ≡ 0 → (state .held < 16 → ⊥) → Known state buffer → (headerError first ≡ 0) × (state .held < totalOf first)
       more z many (inl k) = absurd (many (k .0))
@@ -60,7 +60,7 @@ module _ (state : Deframer) (buffer : List ℕ) where
       more z many (inr (inr k)) = absurd (omega (arith, k .2))
 
       judged : (state .error ≡ 0 → ⊥) → Known state buffer
-          → (state .held ≡ 16) × ((headerError first ≡ state .error) × ((3 ≤ state .error) × (state .error ≤ 8)))
+          → (state .held ≡ 16) × ((headerError first ≡ state .error) × ((3 ≤ state .error) × (state .error ≤ 7)))
       judged n (inl k) = absurd (n (k .1))
       judged n (inr (inl k)) = absurd (n (k .1))
       judged n (inr (inr k)) = (k .0, (k .1, (k .2, k .3)))
@@ -87,7 +87,7 @@ module _ (state : Deframer) (buffer : List ℕ) where
   held-in-use : (state .error ≡ 0 → ⊥) → Known state buffer → Among (state .error) inUse
   held-in-use n (inl k) = absurd (n (k .1))
   held-in-use n (inr (inl k)) = absurd (n (k .1))
-  held-in-use n (inr (inr k)) = in-range 3 6 (state .error) refl (k .2) (omega (arith, k .3))
+  held-in-use n (inr (inr k)) = in-range 3 5 (state .error) refl (k .2) (omega (arith, k .3))
 
   pub state-in-use : (later : List Ground) → ((n : ℕ) → First later n → Among n inUse) → (n : ℕ)
       → First (stateGrounds state buffer later) n → Among n inUse
@@ -112,7 +112,7 @@ module _ (state : Deframer) (buffer piece : List ℕ) where
   abbrev work : Out
   work = moved (cut s) (state .held) buffer s
 
-  -- a header's number is 3 to 8, so a refused header moves bytes unless a refusal was held
+  -- a header's number is 3 to 7, so a refused header moves bytes unless a refusal was held
   header-refusal : state .error ≡ 0 → (n : ℕ) → 3 ≤ n → refusal n ≡ moved (Refused n) (state .held) buffer s
   header-refusal z n h = rw (lt-leb n 2 h, eq-eqb (state .error) 0 z)
 

@@ -1,6 +1,6 @@
 -- For a user: when `check_header` gives which number. `header-check-exactly` is of any call, by its contract only.
 --
--- Promised, for any bytes: 9, then 3 to 8, each exactly when its ground holds and none before it in the order does; 0 exactly when none
+-- Promised, for any bytes: 9, then 3 to 7, each exactly when its ground holds and none before it in the order does; 0 exactly when none
 -- holds.
 -- Not promised: the values of a good header, which the contract of `parse_header` says.
 -- Ruled out: a check that gives 6 where the magic is wrong, too, one that refuses a total of 65,536, and one that always gives 0.
@@ -13,7 +13,7 @@ use mathlib.Core.List.{List}
 use native.Mathlib.Omega.{arith}
 use lib.Dec.{eqb}
 use lib.ListN.{length}
-use Rattle.fixed_header.specs.Header.{maxFrame, magicOk, dataTypeOk, streamTypeOk, totalOk, headerSizeOk, reservedOk, totalOf, headerSizeOf}
+use Rattle.fixed_header.specs.Header.{maxFrame, magicOk, dataTypeOk, streamTypeOk, totalOk, headerSizeOk, totalOf, headerSizeOf}
 use Rattle.fixed_header.specs.Header.{faultOf, headerError}
 use Rattle.refusals.specs.Grounds.{Exactly}
 use Rattle.refusals.proofs.Tests.{Told, Finds, each, either-found, unlike, reworded, equal, up-to, found-by-choice}
@@ -41,15 +41,14 @@ module _ (h : List ℕ) where
       (λ n. reworded (λ z. inr (n, z)) (⊎-elim (λ x. absurd (n (x .0))) (λ x. x .1)) (equal (headerSizeOf h) 0))
 
   pub faults-outcome : Outcome (faults h) (λ n. n) 0 (faultOf h)
-  unfolding faultOf magicOk streamTypeOk totalOk reservedOk
+  unfolding faultOf magicOk streamTypeOk totalOk
   faults-outcome =
       unless (unlike (each (equal (byte h 1) 0x09) (equal (byte h 2) 0x30)))
       (unless (unlike data-type)
       (unless (unlike (either-found (equal (byte h 3) 0) (each (up-to 1 (byte h 4)) (up-to (byte h 4) 4))))
       (unless (unlike (each (up-to 16 (totalOf h)) (up-to (totalOf h) maxFrame)))
       (unless (unlike header-size)
-      (unless (unlike (each (equal (byte h 15) 0) (equal (byte h 16) 0)))
-      end)))))
+      end))))
 
   pub faults-numbered : Numbered (faults h)
   faults-numbered = search arith depth 20

@@ -1,6 +1,6 @@
 -- For a user: when `read` gives which number. `read-gives` is of any call, by its contract only.
 --
--- Promised, for any kind, frame and row numbers: 16; 9; 3 to 8; 9; the grounds of the fields from left to right, 10 to 14 (`Fields`); 15;
+-- Promised, for any kind, frame and row numbers: 16; 9; 3 to 7; 9; the grounds of the fields from left to right, 10 to 14 (`Fields`); 15;
 -- each exactly when its ground holds and none before it in the order does. Where none holds, the record and its parts are handed over. All
 -- that is left, the row numbers too, is said for each case.
 -- Not promised: what a record's fields are, which the definition of reading (crates `decoder`, `message`) and the round trip say.

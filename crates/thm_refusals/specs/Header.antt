@@ -1,4 +1,4 @@
--- The fixed header. "Order: judge 9, then 3 to 8."
+-- The fixed header. "Order: judge 9, then 3 to 8", of which document 02 takes out 8.
 -- Assumes nothing.
 use Prim.Native.Nat.{ℕ, _-_, _≤_}
 use mathlib.Core.Path.{_≡_}
@@ -16,7 +16,7 @@ byte h n = getD h (n - 1) 0
 abbrev pub Unary : List ℕ → Type 0
 Unary h = byte h 3 ≡ 0
 
--- ---- "3-8 | header judge | magic; data type; stream type; total; header size; reserved": when each is wrong
+-- ---- "3-8 | header judge | magic; data type; stream type; total; header size; reserved", without the last: when each is wrong
 
 -- "1-2 | magic | 09 30"
 abbrev pub WrongMagic : List ℕ → Type 0
@@ -38,10 +38,6 @@ WrongTotal h = (16 ≤ totalOf h) × (totalOf h ≤ maxFrame) → ⊥
 abbrev pub WrongHeaderSize : List ℕ → Type 0
 WrongHeaderSize h = (Unary h × (headerSizeOf h ≤ totalOf h - 16)) ⊎ ((Unary h → ⊥) × (headerSizeOf h ≡ 0)) → ⊥
 
--- "15-16 | reserved | both 0"
-abbrev pub ReservedUsed : List ℕ → Type 0
-ReservedUsed h = (byte h 15 ≡ 0) × (byte h 16 ≡ 0) → ⊥
-
 abbrev pub faults : List ℕ → List Ground
 faults h =
     ground 3 (WrongMagic h)
@@ -49,7 +45,6 @@ faults h =
     ∷ ground 5 (WrongStreamType h)
     ∷ ground 6 (WrongTotal h)
     ∷ ground 7 (WrongHeaderSize h)
-    ∷ ground 8 (ReservedUsed h)
     ∷ []
 
 -- ---- `check_header`: "9 | length isn't the total (judge: not 16)"; "gets a number: 0 or the refusal"

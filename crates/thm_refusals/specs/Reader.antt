@@ -1,5 +1,5 @@
 -- The reader. "Reader: 16; fewer than 16 bytes is 9; 3 to 8; 9; then fields from left to right, at each place tag 10, 11, 13, value 10, 12,
--- then 14 before an entry's inside; 15 last."
+-- then 14 before an entry's inside; 15 last", of which document 02 takes out 8.
 -- Assumes nothing.
 use Prim.Native.Nat.{ℕ, _<_}
 use mathlib.Core.Path.{_≡_}
@@ -7,7 +7,7 @@ use mathlib.Core.Bool.{cond, _&&_}
 use mathlib.Core.List.{List, [], _∷_, _++_}
 use lib.Dec.{leb}
 use lib.ListN.{length, take}
-use Rattle.fixed_header.specs.Header.{totalOf, idOf}
+use Rattle.fixed_header.specs.Header.{totalOf, idOf, versionOf}
 use Rattle.decoder.specs.Rows.{rowNumbers, laidOut}
 use Rattle.decoder.specs.Fields.{State, Result, ok, refused, blank, readMessage}
 use Rattle.schema.specs.Kinds.{schemaOf}
@@ -75,7 +75,7 @@ readRefusal lent n = cond (leb 10 n && leb n 15) (refusedCleared n lent) (refuse
 abbrev pub readWork : Kind → (frame lent : List ℕ) → State → Reading
 readWork kind f lent st =
     record {
-      answer = answers.Read (recordOf kind (idOf f) (st .slots) (length (st .rows)));
+      answer = answers.Read (recordOf kind (idOf f) (versionOf f) (st .slots) (length (st .rows)));
       header = headerOf kind f;
       body = bodyOf kind f;
       attachment = lastBytes (attachmentSizeOf kind (st .slots)) (bodyOf kind f);

@@ -46,7 +46,7 @@ called-back r source numbers body output lent w size x held long writes framed r
       reading-is = all-read (kindOf r) (take size (w .output)) lent x reads;
       reads-back =
           subst (λ (o : List ℕ). ReadsBack r source numbers body (take size o) lent) (sym (writes .1))
-          (round-trip r source numbers body output lent size (bounds .0) (bounds .1) long (sym (writes .0) ∙ framed));
+          (round-trip r source numbers body output lent size (bounds .0) (bounds .1 .0) (bounds .1 .1) long (sym (writes .0) ∙ framed));
     }
 
 pub called-exactly : (r : Record) (source numbers body output : List ℕ) (w : Writing) → Writes r source numbers body output w

@@ -36,15 +36,16 @@ pub write-ensures : {M : Type 1} (𝓤 : URA M) (H : Heap 𝓤) (A : Atoms 𝓤)
 write-ensures 𝓤 H A mem run a b c d r source rows body out answer after = refl
 
 pub write-slots-ensures : {M : Type 1} (𝓤 : URA M) (H : Heap 𝓤) (A : Atoms 𝓤) (mem : Memory → SProp 𝓤) (run : Routine → Fun 𝓤)
-    (a b c d : Lft) (kind : Kind) (id : ℕ) (slots : List ℕ) (count : ℕ) (source rows body out : RefT (List ℕ)) (answer : Encoded)
+    (a b c d : Lft) (kind : Kind) (id version : ℕ) (slots : List ℕ) (count : ℕ) (source rows body out : RefT (List ℕ)) (answer : Encoded)
     (after : List ℕ)
     → «write_slots».clauses 𝓤 H A mem run (a, (b, (c, (d, tt))))
-    (kind, (id, (slots, (count, (source, (rows, (body, (out, tt)))))))) .ensures tt answer
-    (atExit «write_slots».ended (a, (b, (c, (d, tt)))) (kind, (id, (slots, (count, (source, (rows, (body, (out, tt))))))))
-    (tt, (tt, (tt, (tt, (tt, (tt, (tt, (after, tt)))))))))
+    (kind, (id, (version, (slots, (count, (source, (rows, (body, (out, tt))))))))) .ensures tt answer
+    (atExit «write_slots».ended (a, (b, (c, (d, tt)))) (kind, (id, (version, (slots, (count, (source, (rows, (body, (out, tt)))))))))
+    (tt, (tt, (tt, (tt, (tt, (tt, (tt, (tt, (after, tt))))))))))
     ≡ fact 𝓤
-    (Writes (recordOf kind id slots count) (now source) (now rows) (now body) (now out) (record { answer = answer; output = after }))
-write-slots-ensures 𝓤 H A mem run a b c d kind id slots count source rows body out answer after = refl
+    (Writes (recordOf kind id version slots count) (now source) (now rows) (now body) (now out)
+    (record { answer = answer; output = after }))
+write-slots-ensures 𝓤 H A mem run a b c d kind id version slots count source rows body out answer after = refl
 
 -- the record that a call of `write` is passed is of the type that `Held` names
 pub write-takes : (κs : Lfts 4) → (others : List RattleType) × (typesAt (write.signature .params) κs ≡ declared.the-row ∷ others)

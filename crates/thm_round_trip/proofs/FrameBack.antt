@@ -1,5 +1,5 @@
--- What the writer's frame says of itself: its fixed header is good and gives its sizes, its id and its kind, and its parts are the message
--- and the body. The round trip of the 16 bytes is that of `fixed_header`.
+-- What the writer's frame says of itself: its fixed header is good and gives its sizes, its id, its version and its kind, and its parts
+-- are the message and the body. The round trip of the 16 bytes is that of `fixed_header`.
 use Prim.Native.Nat.{ℕ, _+_, _-_, _^_, _<_, _≤_}
 use mathlib.Core.Path.{_≡_, refl, sym, _∙_}
 use mathlib.Core.Bool.{true}
@@ -14,7 +14,7 @@ use Rattle.fixed_header.specs.Put.{dataType, streamType, fixedHeader}
 use Rattle.fixed_header.specs.declared.FrameType.{FrameType}
 use Rattle.fixed_header.specs.declared.FrameType.the-variants.{Unary, Init, Data, Feedback, Close}
 use Rattle.fixed_header.specs.Put.{Keeps}
-use Rattle.fixed_header.proofs.RoundTrip.{sixteen-bytes, total-back, size-back, id-back, header-good}
+use Rattle.fixed_header.proofs.RoundTrip.{sixteen-bytes, total-back, size-back, id-back, version-back, header-good}
 use Rattle.decoder.specs.Rows.{Row}
 use Rattle.schema.specs.Kinds.{schemaOf}
 use Rattle.message.specs.Frames.{headerOf, bodyOf, kindFits}
@@ -45,15 +45,15 @@ size-fits Feedback n total h = refl
 size-fits Close n total h = refl
 
 -- ---- the frame of a message and a body
-module _ (kind : Kind) (id : ℕ) (message body : List ℕ) where
+module _ (kind : Kind) (id version : ℕ) (message body : List ℕ) where
   abbrev total : ℕ
   total = 16 + length message + length body
 
   abbrev header : List ℕ
-  header = fixedHeader (headerFor kind id message body)
+  header = fixedHeader (headerFor kind id version message body)
 
   sixteen : length header ≡ 16
-  sixteen = sixteen-bytes (headerFor kind id message body)
+  sixteen = sixteen-bytes (headerFor kind id version message body)
 
   frame-splits : header ++ message ++ body ≡ header ++ (message ++ body)
   frame-splits = append-assoc header message body
@@ -68,20 +68,21 @@ module _ (kind : Kind) (id : ℕ) (message body : List ℕ) where
   unfolding fixedHeader
   kind-back rest = kind-fits kind
 
-  module _ (small : total ≤ maxFrame) (id-small : id < 2 ^ 32) where
-    keeps : Keeps (headerFor kind id message body)
+  module _ (small : total ≤ maxFrame) (id-small : id < 2 ^ 32) (version-small : version < 2 ^ 8) where
+    keeps : Keeps (headerFor kind id version message body)
     unfolding totalOk
     keeps =
         record {
           total-good = rw (le-leb 16 total (omega arith), le-leb total maxFrame small);
           size-good = size-fits (frameTypeOf kind) (length message) total (omega arith);
           id-small = id-small;
+          version-small = version-small;
         }
 
-    -- it is whole, of its kind, and has its id
-    pub frame-whole : Whole kind (header ++ message ++ body) (headerSize (frameTypeOf kind) (length message)) id
+    -- it is whole, of its kind, and has its id and its version
+    pub frame-whole : Whole kind (header ++ message ++ body) (headerSize (frameTypeOf kind) (length message)) id version
     frame-whole =
-        let h = headerFor kind id message body in
+        let h = headerFor kind id version message body in
         rw frame-splits
         (record {
           good = rw (take-at header (message ++ body) 16 sixteen) (header-good h keeps);
@@ -89,6 +90,7 @@ module _ (kind : Kind) (id : ℕ) (message body : List ℕ) where
           fits = kind-back (message ++ body);
           size-is = sym (size-back h keeps (message ++ body));
           id-is = sym (id-back h keeps (message ++ body));
+          version-is = sym (version-back h keeps (message ++ body));
         })
 
 -- ---- the parts

@@ -16,7 +16,7 @@ use Rattle.records.specs.declared.Record.{Record}
 use Rattle.message.specs.declared.Answer.the-variants.{Read}
 use Rattle.decoder.proofs.RowLaws.{rowsIn-flat, laid-split, length-rowsIn}
 use Rattle.message.proofs.Readings.{its-message}
-use Rattle.records.specs.Content.{kindOf, recordId, rowCount, slotsOf}
+use Rattle.records.specs.Content.{kindOf, recordId, recordVersion, rowCount, slotsOf}
 use Rattle.fixed_header.specs.Put.{fixedHeader}
 use Rattle.writer.specs.Writing.{frameTypeOf, headerSize, headerFor, rowsOf, messageOf, frameOf}
 use Rattle.message.specs.Meaning.{Said, fieldsOf, Pair, pairsOf, says}
@@ -30,18 +30,18 @@ use Rattle.thm_round_trip.proofs.RecordBack.{record-said, read-says, at
 use Rattle.thm_round_trip.proofs.Accepted.{WriteAccepted, rows-kept, attachment-fits}
 
 -- the reading of a state whose attachment fits the body
-abbrev given : Kind → (frame lent : List ℕ) (id : ℕ) (message body : List ℕ) (attachment : ℕ) → State → Reading
-given kind frame lent id message body attachment st =
+abbrev given : Kind → (frame lent : List ℕ) (id version : ℕ) (message body : List ℕ) (attachment : ℕ) → State → Reading
+given kind frame lent id version message body attachment st =
     record {
-      answer = Read (recordOf kind id (st .slots) (length (st .rows)));
+      answer = Read (recordOf kind id version (st .slots) (length (st .rows)));
       header = message;
       body = body;
       attachment = lastBytes attachment body;
       rows = laidOut (st .rows) lent;
     }
 
-module _ (r : Record) (source numbers body lent : List ℕ) (id-small : recordId r < 2 ^ 32) (in-range : InRange (fieldsOf source r))
-    (long : 256 ≤ length lent)
+module _ (r : Record) (source numbers body lent : List ℕ) (id-small : recordId r < 2 ^ 32)
+    (version-small : recordVersion r < 2 ^ 8) (in-range : InRange (fieldsOf source r)) (long : 256 ≤ length lent)
     (is : WriteAccepted r source numbers body) where
   abbrev kind : Kind
   kind = kindOf r
@@ -54,24 +54,24 @@ module _ (r : Record) (source numbers body lent : List ℕ) (id-small : recordId
 
   frame-size : length frame ≡ 16 + length message + length body
   unfolding frameOf
-  frame-size = frame-length kind (recordId r) message body
+  frame-size = frame-length kind (recordId r) (recordVersion r) message body
 
-  whole : Whole kind frame (headerSize (frameTypeOf kind) (length message)) (recordId r)
+  whole : Whole kind frame (headerSize (frameTypeOf kind) (length message)) (recordId r) (recordVersion r)
   unfolding frameOf
-  whole = frame-whole kind (recordId r) message body (omega (arith, frame-size, is .small)) id-small
+  whole = frame-whole kind (recordId r) (recordVersion r) message body (omega (arith, frame-size, is .small)) id-small version-small
 
   parts : (headerOf kind frame ≡ message) × (bodyOf kind frame ≡ body)
   unfolding frameOf
   parts =
-      parts-back source (rowsOf r numbers) (slotsOf r) body frame kind (behind-header kind (recordId r) message body) (sym (whole .size-is))
-      (is .content .body-ok)
+      parts-back source (rowsOf r numbers) (slotsOf r) body frame kind
+      (behind-header kind (recordId r) (recordVersion r) message body) (sym (whole .size-is)) (is .content .body-ok)
 
   -- the message is read back
   back : (st : State) × (readMessage frame (schemaOf kind) 16 message ≡ ok st) × MessageBack frame source (rowsOf r numbers) (schemaOf kind)
       (slotsOf r) st
   unfolding frameOf fixedHeader
   back =
-      let header = fixedHeader (headerFor kind (recordId r) message body) in
+      let header = fixedHeader (headerFor kind (recordId r) (recordVersion r) message body) in
       message-back frame source header body (rowsOf r numbers) (schemaOf kind) (slotsOf r) refl (well-formed kind)
       (rw (record-said source r in-range) in-range)
       (rw (length-rowsIn (rowCount r) numbers) (is .content .few))
@@ -91,12 +91,13 @@ module _ (r : Record) (source numbers body lent : List ℕ) (id-small : recordId
   attachment-is : attachmentSizeOf kind (st .slots) ≡ attachment
   attachment-is = attachment-back kind frame (st .slots) source (slotsOf r) (said .fields-are)
 
-  finished-is : withAttachment kind frame lent st ≡ given kind frame lent (recordId r) message body attachment st
+  finished-is : withAttachment kind frame lent st ≡ given kind frame lent (recordId r) (recordVersion r) message body attachment st
   unfolding withAttachment
   finished-is =
-      rw (attachment-is, parts .0, parts .1, attachment-fits kind (slotsOf r) (length body) (is .content .body-ok), ← (whole .id-is))
+      let fits = attachment-fits kind (slotsOf r) (length body) (is .content .body-ok) in
+      rw (attachment-is, parts .0, parts .1, fits, ← (whole .id-is), ← (whole .version-is))
 
-  reading-is : readFrame kind frame lent ≡ given kind frame lent (recordId r) message body attachment st
+  reading-is : readFrame kind frame lent ≡ given kind frame lent (recordId r) (recordVersion r) message body attachment st
   unfolding st answered
   reading-is =
       its-message kind frame lent long (omega (arith, frame-size)) (whole .good) (whole .total-is) (whole .fits)
@@ -112,8 +113,8 @@ module _ (r : Record) (source numbers body lent : List ℕ) (id-small : recordId
       record {
         same-record =
             rw reading-is
-            (read-says kind frame (recordId r) (st .slots) (length (st .rows)) (laidOut (st .rows) lent)
-            ∙ ap₂ (λ (x : List Said) (y : List Pair). says kind (recordId r) x y)
+            (read-says kind frame (recordId r) (recordVersion r) (st .slots) (length (st .rows)) (laidOut (st .rows) lent)
+            ∙ ap₂ (λ (x : List Said) (y : List Pair). says kind (recordId r) (recordVersion r) x y)
             (said .fields-are ∙ record-said source r in-range) rows-are);
         header-is = ap (λ (x : Reading). x .header) reading-is;
         body-is = ap (λ (x : Reading). x .body) reading-is;

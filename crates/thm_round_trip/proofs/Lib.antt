@@ -2,7 +2,10 @@
 pub mod RoundTrip
 pub mod Exactly
 pub mod WithoutTwenty
+pub mod LastTwoWritten
 pub mod ReadWithin
+-- Document 02, P2: a reading does not depend on bytes 15 and 16, but for the version
+pub mod LastTwoRead
 -- The same of the functions themselves, and that what they take a call to ensure is what the contract says
 pub mod CalledBack
 pub mod CalledWithin

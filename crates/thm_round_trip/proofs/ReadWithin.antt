@@ -17,7 +17,7 @@ use lib.Dec.{eqb, ltb, leb}
 use lib.ListN.{length, take, drop, getD, length-take, length-drop}
 use lib.Seq.{length-take-le}
 use Rattle.laws.proofs.Booleans.{choose}
-use Rattle.fixed_header.specs.Header.{headerError, totalOf, headerSizeOf, idOf}
+use Rattle.fixed_header.specs.Header.{headerError, totalOf, headerSizeOf, idOf, versionOf}
 use Rattle.schema.specs.Schema.{width}
 use Rattle.decoder.specs.Rows.{rowNumbers, rowsIn, laidOut}
 use Rattle.decoder.specs.Fields.{State, Result, ok, refused, blank, partOf, readMessage}
@@ -85,15 +85,15 @@ module _ (f : List ℕ) where
   blank-lies kinds.Feedback = tt
   blank-lies kinds.Close = (none-lies f, tt)
 
-  pub record-lies : (kind : Kind) (id : ℕ) (slots : List ℕ) (count : ℕ) → SpansLie (length f) (schemaOf kind) 0 slots
-      → Every (SpanLies f) (recordSpans (recordOf kind id slots count))
+  pub record-lies : (kind : Kind) (id version : ℕ) (slots : List ℕ) (count : ℕ) → SpansLie (length f) (schemaOf kind) 0 slots
+      → Every (SpanLies f) (recordSpans (recordOf kind id version slots count))
   unfolding recordOf width
-  record-lies kinds.Request id l count h = h
-  record-lies kinds.Response id l count h = h
-  record-lies kinds.Init id l count h = (h .0 .0, (h .0 .1 .0, (h .0 .1 .1 .0, (h .1 .0 .0, tt))))
-  record-lies kinds.Data id l count h = tt
-  record-lies kinds.Feedback id l count h = tt
-  record-lies kinds.Close id l count h = h
+  record-lies kinds.Request id version l count h = h
+  record-lies kinds.Response id version l count h = h
+  record-lies kinds.Init id version l count h = (h .0 .0, (h .0 .1 .0, (h .0 .1 .1 .0, (h .1 .0 .0, tt))))
+  record-lies kinds.Data id version l count h = tt
+  record-lies kinds.Feedback id version l count h = tt
+  record-lies kinds.Close id version l count h = h
 
   -- ---- a reading
   record RecordLies (x : Reading) : Type 0 where
@@ -115,13 +115,14 @@ module _ (f : List ℕ) where
     unfolding answered withAttachment
     of-result (ok st) steps =
         let count = length (st .rows) in
-        let r = recordOf kind (idOf f) (st .slots) count in
+        let r = recordOf kind (idOf f) (versionOf f) (st .slots) count in
         let read : rowsIn count (laidOut (st .rows) lent) ≡ st .rows = rw (laid-split (st .rows) lent) (rowsIn-flat (st .rows) _) in
-        let same : rowsIn (rowCount r) (laidOut (st .rows) lent) ≡ st .rows = rw (count-is (idOf f) (st .slots) count kind) read in
+        let same : rowsIn (rowCount r) (laidOut (st .rows) lent) ≡ st .rows =
+        rw (count-is (idOf f) (versionOf f) (st .slots) count kind) read in
         choose RecordLies (leb (attachmentSizeOf kind (st .slots)) (length (bodyOf kind f))) _ _
         (λ e. record {
           fields =
-              record-lies kind (idOf f) (st .slots) count
+              record-lies kind (idOf f) (versionOf f) (st .slots) count
               (steps-spans f (schemaOf kind) 0 blank st steps (fits-slots kind) (blank-lies kind));
           rows = subst (Every (RowLies (length f))) (sym same) (steps-rows f (schemaOf kind) 0 blank st steps tt);
         })

@@ -15,7 +15,7 @@ use Rattle.schema.specs.declared.Kind.the-variants as kinds
 use Rattle.records.specs.declared.Record.{Record}
 use Rattle.records.specs.declared.Record.the-variants.{Request, Response, Init, Data, Feedback, Close}
 use Rattle.message.specs.declared.Answer.the-variants.{Read}
-use Rattle.records.specs.Content.{kindOf, recordId, rowCount, mark, slotsOf}
+use Rattle.records.specs.Content.{kindOf, recordId, recordVersion, rowCount, mark, slotsOf}
 use Rattle.message.specs.Meaning.{Said, unsigned, signed, present, text, fieldsOf, pairsOf, says, answerMeaning}
 use Rattle.thm_round_trip.specs.InRange.{InRange}
 use Rattle.thm_round_trip.proofs.Said.{saidIn}
@@ -38,16 +38,16 @@ record-said source (Close r) h =
     rw (signed-bits (r .«close_type») (h .0), signed-bits (r .ret) (h .1 .0), signed-bits (r .«func_ret») (h .1 .1 .1 .0))
 
 -- what the record of slots that were read means
-pub read-says : (kind : Kind) (f : List ℕ) (id : ℕ) (slots : List ℕ) (count : ℕ) (numbers : List ℕ)
-    → answerMeaning (Read (recordOf kind id slots count)) f numbers
-    ≡ says kind id (saidIn f (schemaOf kind) 0 slots) (pairsOf f (rowsIn count numbers))
-unfolding answerMeaning recordOf saidIn fieldsOf kindOf recordId rowCount width
-read-says kinds.Request f id slots count numbers = refl
-read-says kinds.Response f id slots count numbers = refl
-read-says kinds.Init f id slots count numbers = refl
-read-says kinds.Data f id slots count numbers = refl
-read-says kinds.Feedback f id slots count numbers = refl
-read-says kinds.Close f id slots count numbers = refl
+pub read-says : (kind : Kind) (f : List ℕ) (id version : ℕ) (slots : List ℕ) (count : ℕ) (numbers : List ℕ)
+    → answerMeaning (Read (recordOf kind id version slots count)) f numbers
+    ≡ says kind id version (saidIn f (schemaOf kind) 0 slots) (pairsOf f (rowsIn count numbers))
+unfolding answerMeaning recordOf saidIn fieldsOf kindOf recordId recordVersion rowCount width
+read-says kinds.Request f id version slots count numbers = refl
+read-says kinds.Response f id version slots count numbers = refl
+read-says kinds.Init f id version slots count numbers = refl
+read-says kinds.Data f id version slots count numbers = refl
+read-says kinds.Feedback f id version slots count numbers = refl
+read-says kinds.Close f id version slots count numbers = refl
 
 -- ---- the attachment size, as one of the fields
 unsignedIn : Said → ℕ

@@ -18,7 +18,7 @@ use Rattle.refusals.specs.Grounds.{Every}
 use Rattle.thm_round_trip.specs.Lies.{Lies, RowLies, SpansLie}
 use Rattle.decoder.proofs.ReadingSteps.{Steps, ends, takes-number, takes-bytes, takes-entry, takes-message}
 use Rattle.decoder.proofs.SlotChanges.{Only, low, high, Within, look-within, only-field, bytes-only, number-only, message-only, only-set}
-use Rattle.decoder.proofs.SlotChanges.{steps-only, number-long, bytes-long, slot-long, steps-long}
+use Rattle.decoder.proofs.SlotChanges.{steps-only, number-rows, number-long, bytes-long, slot-long, steps-long}
 
 module _ (most : ℕ) where
   lies-same : (a b : List ℕ) (i : ℕ) → getD b i 0 ≡ getD a i 0 → getD b (i + 1) 0 ≡ getD a (i + 1) 0
@@ -186,14 +186,6 @@ module _ (frame : List ℕ) where
   entry-lies : (e : State) → Steps frame entry 0 blank e → RowLies most (rowOf e)
   unfolding width
   entry-lies e s = let h = steps-spans entry 0 blank e s (omega arith) (none-lies, (none-lies, tt)) in (h .0, h .1 .0)
-
-  number-rows : (t : Target) (v : ℕ) (st : State) → setNumber t v st .rows ≡ st .rows
-  unfolding setNumber setSlot
-  number-rows (aNumber slot) v st = refl
-  number-rows (someBytes slot) v st = refl
-  number-rows anEntry v st = refl
-  number-rows (aMessage slot inner) v st = refl
-  number-rows unknown v st = refl
 
   pub steps-rows : (sch : Schema) (i : ℕ) (st to : State) → Steps frame sch i st to → Every (RowLies most) (st .rows)
       → Every (RowLies most) (to .rows)

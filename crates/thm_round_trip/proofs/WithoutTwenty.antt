@@ -28,7 +28,7 @@ use Rattle.fixed_header.specs.declared.FixedHeader.{FixedHeader}
 use Rattle.schema.specs.declared.Kind.{Kind}
 use Rattle.schema.specs.declared.Kind.the-variants as kinds
 use Rattle.records.specs.declared.Record.{Record}
-use Rattle.records.specs.Content.{kindOf, recordId, rowCount, slotsOf}
+use Rattle.records.specs.Content.{kindOf, recordId, recordVersion, rowCount, slotsOf}
 use Rattle.writer_checks.specs.Grounds.{contentError}
 use Rattle.writer.specs.Writing.{frameTypeOf, headerSize, headerFor, messageOf, frameOf, sizeError, writeError}
 use Rattle.writer.specs.Writing.{Writing, refusedWith, wrote, written}
@@ -92,7 +92,7 @@ module _ (r : Record) (source numbers body : List ℕ) where
 
   frame-size : length frame ≡ 16 + length message + length body
   unfolding frameOf
-  frame-size = frame-length (kindOf r) (recordId r) message body
+  frame-size = frame-length (kindOf r) (recordId r) (recordVersion r) message body
 
   pub over-every-ceiling : (ceiling : ℕ) → ceiling ≤ maxFrame → maxHeader < length message → ceiling < length frame
   over-every-ceiling ceiling within over = omega (arith, frame-size)
@@ -170,7 +170,7 @@ pub message-fits : (r : Record) (source numbers body output : List ℕ) (w : Wri
 unfolding frameOf
 message-fits r source numbers body output w writes size is =
     let m = messageOf r source numbers in
-    let h = headerFor (kindOf r) (recordId r) m body in
+    let h = headerFor (kindOf r) (recordId r) (recordVersion r) m body in
     let d = done (frameOf r source numbers body) output (writeError r source numbers body (length output)) size (sym (writes .0) ∙ is) in
     let small = write-accepted r source numbers body (length output) (d .no-error) .small in
     let long = frame-size r source numbers body in

@@ -17,7 +17,7 @@ readingOf r frame lent = readFrame (kindOf r) frame lent
 -- The frame, read with the row numbers `lent`, is the record r over `source` and its row numbers, with that body. It is no refusal, since a
 -- record's meaning is none.
 pub record ReadsBack (r : Record) (source numbers body frame lent : List ℕ) : Type 0 where
-  -- kind, id, numbers, present marks, length and bytes of each byte field, and the rows in order with those of keys and values
+  -- kind, id, version, numbers, present marks, length and bytes of each byte field, and the rows in order with those of keys and values
   pub same-record : answerMeaning (readingOf r frame lent .answer) frame (readingOf r frame lent .rows) ≡ meaning r source numbers
   pub header-is : readingOf r frame lent .header ≡ messageOf r source numbers
   pub body-is : readingOf r frame lent .body ≡ body

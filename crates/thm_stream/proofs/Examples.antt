@@ -4,7 +4,7 @@ use Prim.Native.Nat.{ℕ}
 use mathlib.Core.List.{List, [], _∷_, _++_}
 use lib.ListN.{take, drop, replicate}
 use Rattle.fixed_header.specs.Header.{be16Of, be32Of, totalOf, headerSizeOf, magicOk, dataTypeOk}
-use Rattle.fixed_header.specs.Header.{streamTypeOk, totalOk, headerSizeOk, reservedOk, faultOf, headerError}
+use Rattle.fixed_header.specs.Header.{streamTypeOk, totalOk, headerSizeOk, faultOf, headerError}
 use Rattle.deframer.specs.Deframe.{fresh, knownOf, nextFrame, deframed, ended}
 use Rattle.thm_stream.specs.Calls.{push, finish, run, takenOf, framesOf}
 
@@ -20,6 +20,6 @@ pub ran :
     × (takenOf (run fresh (replicate 65536 0)
     (push (take 3 feedback) ∷ finish ∷ push (drop 3 feedback) ∷ push (drop 19 feedback) ∷ finish ∷ []))
     ≡ feedback)
-unfolding be16Of be32Of totalOf headerSizeOf magicOk dataTypeOk streamTypeOk totalOk headerSizeOk reservedOk faultOf headerError knownOf
+unfolding be16Of be32Of totalOf headerSizeOf magicOk dataTypeOk streamTypeOk totalOk headerSizeOk faultOf headerError knownOf
     nextFrame deframed ended run
 ran = (refl, refl)

@@ -61,13 +61,13 @@ header-did h out room e =
     rw fits at e ∙ sym (sets-eq (fixedHeader h) out 0 (omega arith))
 
 -- a frame: its message, its body, and then its 16 bytes
-module _ (kind : Kind) (id : ℕ) (m body out : List ℕ) (room : 16 + length m + length body ≤ length out) where
+module _ (kind : Kind) (id version : ℕ) (m body out : List ℕ) (room : 16 + length m + length body ≤ length out) where
   pub framed-message : {end total : ℕ} {out₁ out₂ out₃ : List ℕ} → Did m out 16 end out₁ → Did body out₁ end total out₂
       → (types : FrameType) → types ≡ frameTypeOf kind → (size : ℕ) → size ≡ headerSize types (end - 16)
-      → out₃ ≡ headerPut (record { «frame_type» = types; total = total; «header_size» = size; id = id }) out₂ .output
-      → Did (frameWith kind id m body) out 0 total out₃
+      → out₃ ≡ headerPut (record { «frame_type» = types; total = total; «header_size» = size; id = id; version = version }) out₂ .output
+      → Did (frameWith kind id version m body) out 0 total out₃
   framed-message {end} {total} {out₁} {out₂} {out₃} p q types is-types size is-size e =
-      let h = headerFor kind id m body in
+      let h = headerFor kind id version m body in
       let is-total : total ≡ 16 + length m + length body = omega (arith, p .place, q .place) in
       let is-end : end - 16 ≡ length m = omega (arith, p .place) in
       let is-length : size ≡ headerSize (frameTypeOf kind) (length m) = is-size ∙ rw (is-types, is-end) in

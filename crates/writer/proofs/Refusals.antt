@@ -14,15 +14,15 @@ use Rattle.fixed_header.specs.Put.{fixedHeader}
 use Rattle.fixed_header.proofs.RoundTrip.{sixteen-bytes}
 use Rattle.schema.specs.declared.Kind.{Kind}
 use Rattle.records.specs.declared.Record.{Record}
-use Rattle.records.specs.Content.{kindOf, recordId, rowCount, slotsOf}
+use Rattle.records.specs.Content.{kindOf, recordId, recordVersion, rowCount, slotsOf}
 use Rattle.writer_checks.specs.Grounds.{contentError}
 use Rattle.writer.specs.Writing.{headerFor, frameOf, sizeError, writeError, Writing, refusedWith, written}
 use Rattle.writer.specs.Straight.{Did, messageIn, frameWith, writtenWith, writtenOf}
 use Rattle.writer.specs.declared.Encoded.the-variants.{Frame, Refused}
 
-frame-length : (kind : Kind) (id : ℕ) (m body : List ℕ) → length (frameWith kind id m body) ≡ 16 + length m + length body
-frame-length kind id m body =
-    let h = headerFor kind id m body in
+frame-length : (kind : Kind) (id version : ℕ) (m body : List ℕ) → length (frameWith kind id version m body) ≡ 16 + length m + length body
+frame-length kind id version m body =
+    let h = headerFor kind id version m body in
     length-append (fixedHeader h ++ m) body ∙ rw (length-append (fixedHeader h) m, sixteen-bytes h)
 
 -- a number that is not 0 decides
@@ -39,17 +39,19 @@ chained e size good output = by (eqb e 0) refl
 
 -- what is written of a record
 of-record : (r : Record) (source numbers body output : List ℕ)
-    → writtenOf (kindOf r) (recordId r) (slotsOf r) (rowCount r) source numbers body output ≡ written r source numbers body output
+    → writtenOf (kindOf r) (recordId r) (recordVersion r) (slotsOf r) (rowCount r) source numbers body output
+    ≡ written r source numbers body output
 unfolding frameOf writeError
 of-record r source numbers body output =
     let m = messageIn (kindOf r) (slotsOf r) (rowCount r) source numbers in
-    rw (frame-length (kindOf r) (recordId r) m body)
+    rw (frame-length (kindOf r) (recordId r) (recordVersion r) m body)
     (chained (contentError (kindOf r) (slotsOf r) (rowCount r) source numbers (length body)) _ _ output)
 
-pub as-record : (r : Record) {kind : Kind} {id : ℕ} {slots : List ℕ} {count : ℕ}
-    → kind ≡ kindOf r → id ≡ recordId r → slots ≡ slotsOf r → count ≡ rowCount r → (source numbers body output : List ℕ)
-    → writtenOf kind id slots count source numbers body output ≡ written r source numbers body output
-as-record r e f g h source numbers body output = rw (e, f, g, h) (of-record r source numbers body output)
+pub as-record : (r : Record) {kind : Kind} {id version : ℕ} {slots : List ℕ} {count : ℕ}
+    → kind ≡ kindOf r → id ≡ recordId r → version ≡ recordVersion r → slots ≡ slotsOf r → count ≡ rowCount r
+    → (source numbers body output : List ℕ)
+    → writtenOf kind id version slots count source numbers body output ≡ written r source numbers body output
+as-record r e f v g h source numbers body output = rw (e, f, v, g, h) (of-record r source numbers body output)
 
 -- ---- what is answered
 
@@ -61,28 +63,29 @@ no-error total room e =
     let b = kept (leb total room) 27 0 (omega arith) (a .1) in
     (leb-true _ _ (a .0), leb-true _ _ (b .0))
 
-module _ (kind : Kind) (id : ℕ) (m body output : List ℕ) (e : ℕ) (is-e : e ≡ sizeError (16 + length m + length body) (length output)) where
+module _ (kind : Kind) (id version : ℕ) (m body output : List ℕ) (e : ℕ)
+    (is-e : e ≡ sizeError (16 + length m + length body) (length output)) where
   pub refused-size : (e ≡ 0 → ⊥)
-      → (Refused e ≡ writtenWith kind id m body output .answer) × (output ≡ writtenWith kind id m body output .output)
+      → (Refused e ≡ writtenWith kind id version m body output .answer) × (output ≡ writtenWith kind id version m body output .output)
   refused-size h = (rw (← is-e, ne-eqb e 0 h), rw (← is-e, ne-eqb e 0 h))
 
-  pub framed : e ≡ 0 → {r : ℕ} {after : List ℕ} → Did (frameWith kind id m body) output 0 r after
-      → (Frame r ≡ writtenWith kind id m body output .answer) × (after ≡ writtenWith kind id m body output .output)
+  pub framed : e ≡ 0 → {r : ℕ} {after : List ℕ} → Did (frameWith kind id version m body) output 0 r after
+      → (Frame r ≡ writtenWith kind id version m body output .answer) × (after ≡ writtenWith kind id version m body output .output)
   framed h {r} {after} p =
       let none : sizeError (16 + length m + length body) (length output) ≡ 0 = sym is-e ∙ h in
       let fits = no-error (16 + length m + length body) (length output) none in
-      let from-start : 0 + length (frameWith kind id m body) ≡ length (frameWith kind id m body) = omega arith in
-      let stored = sets-eq (frameWith kind id m body) output 0 (omega (arith, frame-length kind id m body)) in
+      let from-start : 0 + length (frameWith kind id version m body) ≡ length (frameWith kind id version m body) = omega arith in
+      let stored = sets-eq (frameWith kind id version m body) output 0 (omega (arith, frame-length kind id version m body)) in
       (rw (none, p .place, from-start), rw none (p .bytes ∙ stored ∙ rw from-start))
 
-module _ (kind : Kind) (id : ℕ) (slots : List ℕ) (count : ℕ) (source numbers body output : List ℕ)
+module _ (kind : Kind) (id version : ℕ) (slots : List ℕ) (count : ℕ) (source numbers body output : List ℕ)
     (e : ℕ) (is-e : e ≡ contentError kind slots count source numbers (length body)) where
   pub refused-content : (e ≡ 0 → ⊥)
-      → (Refused e ≡ writtenOf kind id slots count source numbers body output .answer)
-      × (output ≡ writtenOf kind id slots count source numbers body output .output)
+      → (Refused e ≡ writtenOf kind id version slots count source numbers body output .answer)
+      × (output ≡ writtenOf kind id version slots count source numbers body output .output)
   refused-content h = (rw (← is-e, ne-eqb e 0 h), rw (← is-e, ne-eqb e 0 h))
 
   pub accepted-content : e ≡ 0
-      → writtenWith kind id (messageIn kind slots count source numbers) body output
-      ≡ writtenOf kind id slots count source numbers body output
+      → writtenWith kind id version (messageIn kind slots count source numbers) body output
+      ≡ writtenOf kind id version slots count source numbers body output
   accepted-content h = rw (← is-e, h)

@@ -15,7 +15,7 @@ use Rattle.decoder.specs.Rows.{Row, rowsIn}
 use Rattle.records.specs.Records.{recordOf, attachmentSizeOf}
 use Rattle.records.specs.Content.{mark, slotsOf}
 use Rattle.writer_checks.specs.Grounds.{spansWithin, allZero, absentOk, bodyOk, contentError}
-use Rattle.records.proofs.Made.{kind-is, id-is, count-is}
+use Rattle.records.proofs.Made.{kind-is, id-is, version-is, count-is}
 use Rattle.writer.specs.Encoding.{putFields}
 use Rattle.writer.specs.Writing.{refusedWith, written}
 use Rattle.writer.specs.Straight.{writtenWith, writtenOf}
@@ -25,9 +25,10 @@ mark-kept : (b : Bool) → eqb (mark (not b)) 0 ≡ b
 mark-kept true = refl
 mark-kept false = refl
 
-module _ (id : ℕ) (v : List ℕ) (rows : ℕ) (fits : (i : ℕ) → getD v i 0 < 2 ^ 32) where
+module _ (id version : ℕ) (v : List ℕ) (rows : ℕ) (fits : (i : ℕ) → getD v i 0 < 2 ^ 32) where
   content-same : (kind : Kind) (source numbers : List ℕ) (size : ℕ)
-      → contentError kind (slotsOf (recordOf kind id v rows)) rows source numbers size ≡ contentError kind v rows source numbers size
+      → contentError kind (slotsOf (recordOf kind id version v rows)) rows source numbers size
+      ≡ contentError kind v rows source numbers size
   unfolding contentError spansWithin allZero absentOk bodyOk attachmentSizeOf recordOf slotsOf width
   content-same kinds.Request source numbers size = refl
   content-same kinds.Response source numbers size = refl
@@ -38,7 +39,7 @@ module _ (id : ℕ) (v : List ℕ) (rows : ℕ) (fits : (i : ℕ) → getD v i 0
   content-same kinds.Close source numbers size = refl
 
   message-same : (kind : Kind) (source : List ℕ) (t : List Row)
-      → putFields source t (schemaOf kind) 0 (slotsOf (recordOf kind id v rows)) ≡ putFields source t (schemaOf kind) 0 v
+      → putFields source t (schemaOf kind) 0 (slotsOf (recordOf kind id version v rows)) ≡ putFields source t (schemaOf kind) 0 v
   unfolding putFields recordOf slotsOf width
   message-same kinds.Request source t = refl
   message-same kinds.Response source t = rw (bits-back (getD v 3 0) (fits 3), bits-back (getD v 4 0) (fits 4))
@@ -50,11 +51,11 @@ module _ (id : ℕ) (v : List ℕ) (rows : ℕ) (fits : (i : ℕ) → getD v i 0
       rw (bits-back (getD v 0 0) (fits 0), bits-back (getD v 1 0) (fits 1), bits-back (getD v 5 0) (fits 5))
 
   pub from-slots : (kind : Kind) (source numbers body output : List ℕ)
-      → writtenOf kind id v rows source numbers body output ≡ written (recordOf kind id v rows) source numbers body output
+      → writtenOf kind id version v rows source numbers body output ≡ written (recordOf kind id version v rows) source numbers body output
   from-slots kind source numbers body output =
-      let r = recordOf kind id v rows in
-      ap₂ (λ (e : ℕ) (m : List ℕ). cond (eqb e 0) (writtenWith kind id m body output) (refusedWith e output))
+      let r = recordOf kind id version v rows in
+      ap₂ (λ (e : ℕ) (m : List ℕ). cond (eqb e 0) (writtenWith kind id version m body output) (refusedWith e output))
       (sym (content-same kind source numbers (length body)))
       (sym (message-same kind source (rowsIn rows numbers)))
-      ∙ as-record r (sym (kind-is id v rows kind)) (sym (id-is id v rows kind)) refl (sym (count-is id v rows kind)) source numbers body
-      output
+      ∙ as-record r (sym (kind-is id version v rows kind)) (sym (id-is id version v rows kind)) (sym (version-is id version v rows kind))
+      refl (sym (count-is id version v rows kind)) source numbers body output

@@ -249,23 +249,23 @@ contentSize slots = unsignedSize slots 8 + unsignedSize slots 9 + unsignedSize s
 abbrev pub streamSize : (slots : List ℕ) → ℕ
 streamSize slots = unsignedSize slots 12 + unsignedSize slots 13 + unsignedSize slots 14
 
--- ---- the frame of a kind, an id, slots and a row count
+-- ---- the frame of a kind, an id, a version, slots and a row count
 abbrev pub messageIn : Kind → (slots : List ℕ) → (count : ℕ) → (source numbers : List ℕ) → List ℕ
 messageIn kind slots count source numbers = putFields source (rowsIn count numbers) (schemaOf kind) 0 slots
 
-abbrev pub frameWith : Kind → (id : ℕ) → (m body : List ℕ) → List ℕ
-frameWith kind id m body = fixedHeader (headerFor kind id m body) ++ m ++ body
+abbrev pub frameWith : Kind → (id version : ℕ) → (m body : List ℕ) → List ℕ
+frameWith kind id version m body = fixedHeader (headerFor kind id version m body) ++ m ++ body
 
 -- 19, 27, or the frame
-abbrev pub writtenWith : Kind → (id : ℕ) → (m body output : List ℕ) → Writing
-writtenWith kind id m body output =
+abbrev pub writtenWith : Kind → (id version : ℕ) → (m body output : List ℕ) → Writing
+writtenWith kind id version m body output =
     cond (eqb (sizeError (16 + length m + length body) (length output)) 0)
-    (wrote (frameWith kind id m body) output)
+    (wrote (frameWith kind id version m body) output)
     (refusedWith (sizeError (16 + length m + length body) (length output)) output)
 
--- the grounds before these, and then that: what `written` says of a record with this kind, this id, these slots and rows
-abbrev pub writtenOf : Kind → (id : ℕ) → (slots : List ℕ) → (count : ℕ) → (source numbers body output : List ℕ) → Writing
-writtenOf kind id slots count source numbers body output =
+-- the grounds before these, and then that: what `written` says of a record with this kind, this id, this version, these slots and rows
+abbrev pub writtenOf : Kind → (id version : ℕ) → (slots : List ℕ) → (count : ℕ) → (source numbers body output : List ℕ) → Writing
+writtenOf kind id version slots count source numbers body output =
     cond (eqb (contentError kind slots count source numbers (length body)) 0)
-    (writtenWith kind id (messageIn kind slots count source numbers) body output)
+    (writtenWith kind id version (messageIn kind slots count source numbers) body output)
     (refusedWith (contentError kind slots count source numbers (length body)) output)

@@ -15,7 +15,7 @@ use Rattle.schema.specs.Kinds.{schemaOf}
 use Rattle.schema.specs.declared.Kind.{Kind}
 use Rattle.schema.specs.declared.Kind.the-variants as kinds
 use Rattle.records.specs.declared.Record.{Record}
-use Rattle.records.specs.Content.{kindOf, recordId, rowCount, slotsOf}
+use Rattle.records.specs.Content.{kindOf, recordId, recordVersion, rowCount, slotsOf}
 use Rattle.writer.specs.Encoding.{putFields}
 use Rattle.writer_checks.specs.Grounds.{contentError}
 use Rattle.writer.specs.declared.Encoded.{Encoded}
@@ -40,13 +40,14 @@ headerSize Feedback size = 0
 headerSize Close size = 0
 
 -- the fixed header of a frame with this message and this body
-abbrev pub headerFor : Kind → (id : ℕ) → (message body : List ℕ) → FixedHeader
-headerFor kind id message body =
+abbrev pub headerFor : Kind → (id version : ℕ) → (message body : List ℕ) → FixedHeader
+headerFor kind id version message body =
     record {
       «frame_type» = frameTypeOf kind;
       total = 16 + length message + length body;
       «header_size» = headerSize (frameTypeOf kind) (length message);
       id = id;
+      version = version;
     }
 
 -- ---- the frame
@@ -62,7 +63,8 @@ messageOf r source numbers = putFields source (rowsOf r numbers) (schemaOf (kind
 -- Data frame's message is empty, and a body with the other stream kinds is refused.
 unfoldable pub frameOf : Record → (source numbers body : List ℕ) → List ℕ
 frameOf r source numbers body =
-    fixedHeader (headerFor (kindOf r) (recordId r) (messageOf r source numbers) body) ++ messageOf r source numbers ++ body
+    fixedHeader (headerFor (kindOf r) (recordId r) (recordVersion r) (messageOf r source numbers) body)
+    ++ messageOf r source numbers ++ body
 
 -- ---- the refusals
 -- "frame over 65,536", "output shorter than the frame": by the sizes of frame and output

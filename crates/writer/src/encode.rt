@@ -56,6 +56,7 @@ fn put_body(body: &[u8], out: &mut [u8], at: usize) -> usize
 fn put_frame(
     kind: Kind,
     id: u32,
+    version: u8,
     n: &[u32; 16],
     count: usize,
     source: &[u8],
@@ -68,7 +69,7 @@ fn put_frame(
         × (16 + length (messageIn kind (now n) count (now source) (now rows)) + length (now body) ≤ maxFrame)
         × (16 + length (messageIn kind (now n) count (now source) (now rows)) + length (now body) ≤ length (now out)) ⌝ }
     ensures { λ r. ⌜ Did
-        (frameWith kind id (messageIn kind (now (n .entry)) count (now (source .entry)) (now (rows .entry))) (now (body .entry)))
+        (frameWith kind id version (messageIn kind (now (n .entry)) count (now (source .entry)) (now (rows .entry))) (now (body .entry)))
         (now (out .entry)) 0 r (now (out .exit)) ⌝ }
 {
     let end = put_message(kind, n, count, source, rows, out, HEADER);
@@ -79,6 +80,7 @@ fn put_frame(
         total,
         header_size: header_size(header_type, end - HEADER),
         id,
+        version,
     };
     put_header(header, out);
     total
@@ -88,6 +90,7 @@ fn put_frame(
 fn write_frame(
     kind: Kind,
     id: u32,
+    version: u8,
     n: &[u32; 16],
     count: usize,
     source: &[u8],
@@ -97,22 +100,23 @@ fn write_frame(
 ) -> Encoded
     requires { ⌜ Lent count (now rows) × RowsIn count (now source) (now rows)
         × (spansWithin (length (now source)) (schemaOf kind) 0 (now n) ≡ true) ⌝ }
-    ensures { λ r. ⌜ (r ≡ writtenWith kind id (messageIn kind (now (n .entry)) count (now (source .entry)) (now (rows .entry)))
+    ensures { λ r. ⌜ (r ≡ writtenWith kind id version (messageIn kind (now (n .entry)) count (now (source .entry)) (now (rows .entry)))
         (now (body .entry)) (now (out .entry)) .answer)
-        × (now (out .exit) ≡ writtenWith kind id (messageIn kind (now (n .entry)) count (now (source .entry)) (now (rows .entry)))
+        × (now (out .exit) ≡ writtenWith kind id version (messageIn kind (now (n .entry)) count (now (source .entry)) (now (rows .entry)))
         (now (body .entry)) (now (out .entry)) .output) ⌝ }
 {
     let error = message_error(kind, n, count, rows, body.len(), out.len());
     if error != 0 {
         return Encoded::Refused(error);
     }
-    Encoded::Frame(put_frame(kind, id, n, count, source, rows, body, out))
+    Encoded::Frame(put_frame(kind, id, version, n, count, source, rows, body, out))
 }
 
-// The frame of a kind, an id, slots and a row count.
+// The frame of a kind, an id, a version, slots and a row count.
 pub(crate) fn write_values(
     kind: Kind,
     id: u32,
+    version: u8,
     n: &[u32; 16],
     count: u32,
     source: &[u8],
@@ -120,14 +124,24 @@ pub(crate) fn write_values(
     body: &[u8],
     out: &mut [u8],
 ) -> Encoded
-    ensures { λ r. ⌜ (r ≡ writtenOf kind id (now (n .entry)) count (now (source .entry)) (now (rows .entry)) (now (body .entry))
+    ensures { λ r. ⌜ (r ≡ writtenOf kind id version (now (n .entry)) count (now (source .entry)) (now (rows .entry)) (now (body .entry))
         (now (out .entry)) .answer)
-        × (now (out .exit) ≡ writtenOf kind id (now (n .entry)) count (now (source .entry)) (now (rows .entry)) (now (body .entry))
+        × (now (out .exit) ≡ writtenOf kind id version (now (n .entry)) count (now (source .entry)) (now (rows .entry)) (now (body .entry))
         (now (out .entry)) .output) ⌝ }
 {
     let ground = content_error(kind, n, count, source, rows, body.len());
     if ground != 0 {
         return Encoded::Refused(ground);
     }
-    write_frame(kind, id, n, count as usize, source, rows, body, out)
+    write_frame(
+        kind,
+        id,
+        version,
+        n,
+        count as usize,
+        source,
+        rows,
+        body,
+        out,
+    )
 }

@@ -31,14 +31,26 @@ pub fn write(record: Record, source: &[u8], rows: &[u32], body: &[u8], out: &mut
     let outline = slots_of(record, &mut slots);
     let kind = outline.kind;
     let id = outline.id;
+    let version = outline.header_version;
     let row_count = outline.rows;
-    write_values(kind, id, &slots, row_count, source, rows, body, out)
+    write_values(
+        kind,
+        id,
+        version,
+        &slots,
+        row_count,
+        source,
+        rows,
+        body,
+        out,
+    )
 }
 
-// The same of the record that a kind, an id, slots and a row count make, without making it.
+// The same of the record that a kind, an id, a version, slots and a row count make, without making it.
 pub fn write_slots(
     kind: Kind,
     id: u32,
+    header_version: u8,
     slots: [u32; 16],
     count: u32,
     source: &[u8],
@@ -46,10 +58,20 @@ pub fn write_slots(
     body: &[u8],
     out: &mut [u8],
 ) -> Encoded
-    ensures { λ r. ⌜ (r ≡ written (recordOf kind id slots count) (now (source .entry)) (now (rows .entry)) (now (body .entry))
-        (now (out .entry)) .answer)
-        × (now (out .exit) ≡ written (recordOf kind id slots count) (now (source .entry)) (now (rows .entry)) (now (body .entry))
-        (now (out .entry)) .output) ⌝ }
+    ensures { λ r. ⌜ (r ≡ written (recordOf kind id «header_version» slots count) (now (source .entry)) (now (rows .entry))
+        (now (body .entry)) (now (out .entry)) .answer)
+        × (now (out .exit) ≡ written (recordOf kind id «header_version» slots count) (now (source .entry)) (now (rows .entry))
+        (now (body .entry)) (now (out .entry)) .output) ⌝ }
 {
-    write_values(kind, id, &slots, count, source, rows, body, out)
+    write_values(
+        kind,
+        id,
+        header_version,
+        &slots,
+        count,
+        source,
+        rows,
+        body,
+        out,
+    )
 }

@@ -18,8 +18,8 @@ returns c =
 returns-2 : tie.Need-returns-2
 unfolding headerPut fixedHeader
 returns-2 c =
-    let reserved = c .before .before in
-    let id = reserved .before .before .before .before in
+    let last = c .before .before in
+    let id = last .before .before .before .before in
     let size = id .before .before .before .before .before in
     let total = size .before .before .before .before in
     let types = total .before .before .before .before in
@@ -30,7 +30,7 @@ returns-2 c =
       rw room,
       rw (
         room,
-        reserved .put-u162 .ensures,
+        last .put-version .ensures,
         id .put-u322 .ensures,
         size .put-u16 .ensures,
         total .put-u32 .ensures,

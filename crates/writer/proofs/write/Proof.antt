@@ -1,4 +1,4 @@
--- What is written of its kind, its id, its slots and its row count is what is written of the record.
+-- What is written of its kind, its id, its version, its slots and its row count is what is written of the record.
 use mathlib.Core.Path.{ap, _∙_}
 use borrow.Author.Needs.{needs}
 use Rattle.writer.specs.Writing.{Writing}
@@ -12,7 +12,7 @@ returns c =
     let at-slots = at-write .before .before .before in
     let args = at-slots .before .before .before .before .before .before .args in
     let is = at-slots .slots-of .ensures in
-    let same = as-record (args .«record») (is .0) (is .1) (is .3) (is .2) (args .source .now) (args .rows .now) (args .body .now)
+    let same = as-record (args .«record») (is .0) (is .1) (is .2) (is .4) (is .3) (args .source .now) (args .rows .now) (args .body .now)
     (args .out .now) in
     let wrote = at-write .write-values .ensures in
     (wrote .0 ∙ ap (λ (w : Writing). w .answer) same, wrote .1 ∙ ap (λ (w : Writing). w .output) same)

@@ -12,7 +12,7 @@ use Rattle.bekurapi.proofs.numbers.fields_of.Statement.{statement}
 use Rattle.bekurapi.proofs.numbers.fields_of.Tie as tie
 
 abbrev Inv-loop : tie.InvT-loop
-Inv-loop numbers fields₀ i₀ fields i = (i ≤ 16) × (length numbers ≡ 24) × (fields ≡ paste (replicate 16 0) 0 (drop 8 numbers) i)
+Inv-loop numbers fields₀ i₀ fields i = (i ≤ 16) × (length numbers ≡ 25) × (fields ≡ paste (replicate 16 0) 0 (drop 8 numbers) i)
 
 abbrev μ-loop : tie.MeasureT-loop
 μ-loop numbers fields₀ i₀ fields i = 16 - i
@@ -39,7 +39,7 @@ returns c =
     let at-loop = c .before in
     let l = at-loop .before .args .t1 in
     let e : at-loop .loop .i ≡ 16 = omega arith in
-    at-loop .loop .inv .2 ∙ ap (paste (replicate 16 0) 0 (drop 8 l)) e ∙ fields-all l (at-loop .loop .inv .1)
+    at-loop .loop .inv .2 ∙ ap (paste (replicate 16 0) 0 (drop 8 l)) e ∙ fields-all l
 
 pub fields-of-spec : {M : Type 1} → statement M
 fields-of-spec =

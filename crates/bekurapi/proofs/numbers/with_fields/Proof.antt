@@ -11,7 +11,7 @@ use Rattle.bekurapi.proofs.numbers.with_fields.Statement.{statement}
 use Rattle.bekurapi.proofs.numbers.with_fields.Tie as tie
 
 abbrev Inv-loop : tie.InvT-loop
-Inv-loop fields all₀ i₀ all i = (i ≤ 16) × (length all₀ ≡ 24) × (length fields ≡ 16) × (all ≡ paste all₀ 8 fields i)
+Inv-loop fields all₀ i₀ all i = (i ≤ 16) × (length all₀ ≡ 25) × (length fields ≡ 16) × (all ≡ paste all₀ 8 fields i)
 
 abbrev μ-loop : tie.MeasureT-loop
 μ-loop fields all₀ i₀ all i = 16 - i
@@ -34,7 +34,7 @@ returns c =
     let args = at-loop .before .args in
     let inv = at-loop .loop .inv in
     let e : at-loop .loop .i ≡ 16 = omega arith in
-    inv .3 ∙ ap (paste (args .numbers) 8 (args .t2)) e ∙ fields-copied (args .numbers) (args .t2) (inv .1) (inv .2)
+    inv .3 ∙ ap (paste (args .numbers) 8 (args .t2)) e ∙ fields-copied (args .numbers) (args .t2) (inv .2)
 
 pub with-fields-spec : {M : Type 1} → statement M
 with-fields-spec =

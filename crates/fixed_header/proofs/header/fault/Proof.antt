@@ -1,12 +1,10 @@
 -- The number of the types, or, where they have none, that of the rest of the chain.
 use Prim.Native.Nat.{ℕ}
 use mathlib.Core.Path.{_≡_, sym, _∙_}
-use mathlib.Core.Bool.{Bool}
 use mathlib.Core.List.{List}
 use borrow.Author.Needs.{needs}
 use lib.ListN.{getD}
-use Rattle.laws.specs.Chains.{unless}
-use Rattle.fixed_header.specs.Header.{totalOf, headerSizeOf, reservedOk, typeFault, sizeFault, faultOf}
+use Rattle.fixed_header.specs.Header.{totalOf, headerSizeOf, typeFault, sizeFault, faultOf}
 use Rattle.fixed_header.proofs.Codes.{types-pass}
 use Rattle.fixed_header.proofs.header.fault.Statement.{statement}
 use Rattle.fixed_header.proofs.header.fault.Tie as tie
@@ -16,28 +14,25 @@ module _ (h : List ℕ) (types : ℕ) (is-types : types ≡ typeFault (getD h 0 
   unfolding faultOf
   of-types n = is-types ∙ sym (types-pass _ _ _ _ _ .1 (λ e. n (is-types ∙ e)))
 
-  of-rest : types ≡ 0 → (total size : ℕ) (reserved : Bool) (rest : ℕ) → total ≡ totalOf h → size ≡ headerSizeOf h
-      → reserved ≡ reservedOk (getD h 14 0) (getD h 15 0) → rest ≡ sizeFault (getD h 2 0) total size (unless reserved 8 0)
+  of-rest : types ≡ 0 → (total size rest : ℕ) → total ≡ totalOf h → size ≡ headerSizeOf h → rest ≡ sizeFault (getD h 2 0) total size
       → rest ≡ faultOf h
   unfolding faultOf
-  of-rest none total size reserved rest is-total is-size is-reserved is =
-      is ∙ rw (is-total, is-size, is-reserved) (sym (types-pass _ _ _ _ _ .0 (sym is-types ∙ none)))
+  of-rest none total size rest is-total is-size is =
+      is ∙ rw (is-total, is-size) (sym (types-pass _ _ _ _ _ .0 (sym is-types ∙ none)))
 
 returns : tie.Need-returns
 returns c = of-types _ _ (c .before .type-fault .ensures) (c .if1 .taken)
 
 returns-2 : tie.Need-returns-2
 returns-2 c =
-    let at-reserved = c .before in
-    let at-size = at-reserved .before .before .before in
+    let at-size = c .before in
     let at-total = at-size .before in
     let at-if1 = at-total .before .before in
-    of-rest _ _ (at-if1 .before .type-fault .ensures) (at-if1 .if1 .left) _ _ _ _ (at-total .total .ensures) (at-size .header-size .ensures)
-    (at-reserved .reserved-ok .ensures) (c .size-fault .ensures)
+    of-rest _ _ (at-if1 .before .type-fault .ensures) (at-if1 .if1 .left) _ _ _ (at-total .total .ensures) (at-size .header-size .ensures)
+    (c .size-fault .ensures)
 
 pub fault-spec : {M : Type 1} → statement M
 fault-spec =
     tie.close
     (tie.spec (λ c. search needs) (λ c. search needs) (λ c. search needs) (λ c. search needs) (λ c κs. search needs) returns
-    (λ c. search needs) (λ c κs. search needs) (λ c κs. search needs) (λ c. search needs) (λ c. search needs) (λ c κs. search needs)
-    (λ c κs. search needs) returns-2)
+    (λ c. search needs) (λ c κs. search needs) (λ c κs. search needs) (λ c κs. search needs) returns-2)

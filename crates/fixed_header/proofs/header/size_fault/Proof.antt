@@ -1,6 +1,6 @@
 -- At each return the rules before it were kept and its own was broken, by what the tests' contracts say.
 use borrow.Author.Needs.{needs}
-use borrow.Author.Tests.{leb-true, not-true, not-false}
+use borrow.Author.Tests.{leb-true}
 use lib.Dec.{leb}
 use Rattle.laws.proofs.Booleans.{both}
 use Rattle.laws.proofs.Tests.{fails, holds}
@@ -23,19 +23,8 @@ returns-2 c =
 
 returns-3 : tie.Need-returns-3
 returns-3 c =
-    let at-size = c .before .before in
-    let at-if1 = at-size .before in
-    let total = holds (at-if1 .before .total-ok .ensures) (at-if1 .if1 .left) in
-    let broken = not-true (at-if1 .before .before .args .reserved) (c .if3 .taken) in
-    rw (total, holds (at-size .header-size-ok .ensures) (c .before .if2 .left), broken)
-
-returns-4 : tie.Need-returns-4
-returns-4 c =
-    let at-size = c .before .before in
-    let at-if1 = at-size .before in
-    let total = holds (at-if1 .before .total-ok .ensures) (at-if1 .if1 .left) in
-    let kept = not-false (at-if1 .before .before .args .reserved) (c .if3 .left) in
-    rw (total, holds (at-size .header-size-ok .ensures) (c .before .if2 .left), kept)
+    let at-if1 = c .before .before in
+    rw (holds (at-if1 .before .total-ok .ensures) (at-if1 .if1 .left), holds (c .before .header-size-ok .ensures) (c .if2 .left))
 
 pub size-fault-spec : {M : Type 1} → statement M
-size-fault-spec = tie.close (tie.spec (λ c κs. search needs) returns header-size-ok-requires returns-2 returns-3 returns-4)
+size-fault-spec = tie.close (tie.spec (λ c κs. search needs) returns header-size-ok-requires returns-2 returns-3)

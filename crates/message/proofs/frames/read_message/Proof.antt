@@ -14,9 +14,9 @@ read-message-spec =
     let start = c .before .before in
     omega (
       arith,
-      header-size (start .args .kind) (start .args .frame .now) (start .args .header-size) (start .args .id)
+      header-size (start .args .kind) (start .args .frame .now) (start .args .header-size) (start .args .id) (start .args .version)
           (start .pre .1),
-      frame-size (start .args .kind) (start .args .frame .now) (start .args .header-size) (start .args .id)
+      frame-size (start .args .kind) (start .args .frame .now) (start .args .header-size) (start .args .id) (start .args .version)
           (start .pre .1),
     ))
     (λ c κs. search needs)
@@ -29,15 +29,15 @@ read-message-spec =
     let at-schema-number = at-decode .before .before in
     let at-body-at = at-schema-number .before in
     let start = at-body-at .before .before .before in
-    fields-refused _ _ _ _ _ _ _ _ _ (start .pre .0) (start .pre .1) (at-body-at .body-at .ensures)
+    fields-refused _ _ _ _ _ _ _ _ _ _ (start .pre .0) (start .pre .1) (at-body-at .body-at .ensures)
     (at-schema-number .schema-number .ensures) (at-decode .decode .ensures) (at-if1 .if1 .taken) (c .refused .ensures))
     (λ c κs. search needs)
     (λ c. search needs)
     (λ c.
     let at-body-at = c .before .before .before .before .before .before .before .before .before in
     let start = at-body-at .before .before .before in
-    within (start .args .kind) (start .args .frame .now) (start .args .header-size) (start .args .id) (start .pre .1) _
-    (at-body-at .body-at .ensures) .1)
+    within (start .args .kind) (start .args .frame .now) (start .args .header-size) (start .args .id) (start .args .version)
+    (start .pre .1) _ (at-body-at .body-at .ensures) .1)
     (λ c κs. search needs)
     (λ c κs. search needs)
     (λ c. search needs)
@@ -50,7 +50,7 @@ read-message-spec =
     let at-schema-number = at-decode .before .before in
     let at-body-at = at-schema-number .before in
     let start = at-body-at .before .before .before in
-    attachment-refused _ _ _ _ _ _ _ _ _ (start .pre .0) (start .pre .1) (at-body-at .body-at .ensures)
+    attachment-refused _ _ _ _ _ _ _ _ _ _ (start .pre .0) (start .pre .1) (at-body-at .body-at .ensures)
     (at-schema-number .schema-number .ensures) (at-decode .decode .ensures) (at-if1 .if1 .left)
     (at-attachment-size .attachment-size .ensures) (at-if2 .if2 .taken) (at-clear .clear-rows .ensures) (c .refused2 .ensures))
     (λ c.
@@ -61,7 +61,7 @@ read-message-spec =
     let start = at-body-at .before .before .before in
     omega (
       arith,
-      few-decoded _ _ _ _ _ _ _ _ _ (start .pre .0) (start .pre .1) (at-body-at .body-at .ensures)
+      few-decoded _ _ _ _ _ _ _ _ _ _ (start .pre .0) (start .pre .1) (at-body-at .body-at .ensures)
           (at-schema-number .schema-number .ensures) (at-decode .decode .ensures) (at-if1 .if1 .left),
     ))
     (λ c κs. search needs)
@@ -75,6 +75,6 @@ read-message-spec =
     let at-schema-number = at-decode .before .before in
     let at-body-at = at-schema-number .before in
     let start = at-body-at .before .before .before in
-    message-read _ _ _ _ _ _ _ _ _ (start .pre .0) (start .pre .1) (at-body-at .body-at .ensures)
+    message-read _ _ _ _ _ _ _ _ _ _ (start .pre .0) (start .pre .1) (at-body-at .body-at .ensures)
     (at-schema-number .schema-number .ensures) (at-decode .decode .ensures) (at-if1 .if1 .left)
     (at-attachment-size .attachment-size .ensures) (at-if2 .if2 .left) (c .record-of .ensures)))

@@ -14,8 +14,9 @@ returns c =
     let at-message = at-body .before .before .before .before in
     let start = at-message .before .before .before .before .before .before in
     let args = start .args in
-    framed-message (args .kind) (args .id) (messageIn (args .kind) (args .n .now) (args .count) (args .source .now) (args .rows .now))
-    (args .body .now) (args .out .now) (start .pre .4) (at-message .put-message .ensures) (at-body .put-body .ensures)
+    framed-message (args .kind) (args .id) (args .version)
+    (messageIn (args .kind) (args .n .now) (args .count) (args .source .now) (args .rows .now)) (args .body .now)
+    (args .out .now) (start .pre .4) (at-message .put-message .ensures) (at-body .put-body .ensures)
     _ (at-type .frame-type .ensures) _ (at-size .header-size .ensures) (at-header .put-header .ensures .1)
 
 pub put-frame-spec : {M : Type 1} → statement M

@@ -12,8 +12,8 @@ returns c =
     let at-error = c .before in
     let start = at-error .before .before .before .before .before in
     let args = start .args in
-    refused-size (args .kind) (args .id) (messageIn (args .kind) (args .n .now) (args .count) (args .source .now) (args .rows .now))
-    (args .body .now) (args .out .now) _
+    refused-size (args .kind) (args .id) (args .version)
+    (messageIn (args .kind) (args .n .now) (args .count) (args .source .now) (args .rows .now)) (args .body .now) (args .out .now) _
     (of-message (args .kind) (args .n .now) (args .count) (args .source .now) (args .rows .now) (start .pre .1) (start .pre .2)
     (length (args .body .now)) (length (args .out .now)) (at-error .message-error .ensures))
     (c .if1 .taken)
@@ -34,8 +34,8 @@ returns-2 c =
     let at-error = at-if .before in
     let start = at-error .before .before .before .before .before in
     let args = start .args in
-    framed (args .kind) (args .id) (messageIn (args .kind) (args .n .now) (args .count) (args .source .now) (args .rows .now))
-    (args .body .now) (args .out .now) _
+    framed (args .kind) (args .id) (args .version)
+    (messageIn (args .kind) (args .n .now) (args .count) (args .source .now) (args .rows .now)) (args .body .now) (args .out .now) _
     (of-message (args .kind) (args .n .now) (args .count) (args .source .now) (args .rows .now) (start .pre .1) (start .pre .2)
     (length (args .body .now)) (length (args .out .now)) (at-error .message-error .ensures))
     (at-if .if1 .left) (at-frame .put-frame .ensures)

@@ -12,8 +12,8 @@ returns : tie.Need-returns
 returns c =
     let at-error = c .before in
     let args = at-error .before .before .before .before .before .args in
-    refused-content (args .kind) (args .id) (args .n .now) (args .count) (args .source .now) (args .rows .now) (args .body .now)
-    (args .out .now) _ (at-error .content-error .ensures) (c .if1 .taken)
+    refused-content (args .kind) (args .id) (args .version) (args .n .now) (args .count) (args .source .now) (args .rows .now)
+    (args .body .now) (args .out .now) _ (at-error .content-error .ensures) (c .if1 .taken)
 
 write-frame-requires : tie.Need-write-frame-requires
 write-frame-requires c κs =
@@ -32,7 +32,7 @@ returns-2 c =
     let at-if = at-frame .before .before in
     let at-error = at-if .before in
     let args = at-error .before .before .before .before .before .args in
-    let same = accepted-content (args .kind) (args .id) (args .n .now) (args .count) (args .source .now) (args .rows .now)
+    let same = accepted-content (args .kind) (args .id) (args .version) (args .n .now) (args .count) (args .source .now) (args .rows .now)
     (args .body .now) (args .out .now) _ (at-error .content-error .ensures) (at-if .if1 .left) in
     let wrote = at-frame .write-frame .ensures in
     (wrote .0 ∙ ap (λ (w : Writing). w .answer) same, wrote .1 ∙ ap (λ (w : Writing). w .output) same)

@@ -1,4 +1,4 @@
-// The client: a Feedback frame, which is no request, then four requests, then the beginning of a frame that never gets whole. The
+// The gateway: a Feedback frame, which is no request, then four requests, then the beginning of a frame that never gets whole. The
 // jobs are due in the order 2, 1, 3; the second 2 is refused, since 2 waits already.
 use records::Feedback;
 use records::Record;
@@ -6,6 +6,9 @@ use records::Request;
 use records::Span;
 use writer::Encoded;
 ghost use Prim.Native.Nat.{_≤_};
+
+// The protocol version that the gateway names in its fixed headers. Every version is read.
+const VERSION: u8 = 1;
 
 // Where piece number n of the stream starts, from 0: the pieces have 1, 7, 31, 3, 19 and 113 bytes, and then again.
 pub(crate) fn piece_start(n: usize) -> usize
@@ -31,6 +34,7 @@ fn start_in_turn(k: usize) -> usize
 pub(crate) fn write_stream(out: &mut [u8; 1024]) -> usize {
     let feedback = Record::Feedback(Feedback {
         id: 5,
+        header_version: VERSION,
         window_size_increment: 300,
         rows: 0,
     });
@@ -66,6 +70,7 @@ fn write_request(
     };
     let request = Record::Request(Request {
         id,
+        header_version: VERSION,
         version: 0,
         call_type: 0,
         request_id: id,
