@@ -1,5 +1,5 @@
 /*
- * A small controller. A client's stream arrives in pieces of odd sizes; the frames are cut from it, the requests are
+ * A small controller. A gateway's stream arrives in pieces of odd sizes; the frames are cut from it, the requests are
  * read, and a job is queued for each. Then the jobs are taken, the one that is due first before the others, and each is
  * answered with a response frame. bindings/rust/examples/controller.rs does the same and prints the same.
  *
@@ -16,7 +16,10 @@
 /* The number of the connection that the stream comes on. */
 #define CONNECTION 1
 
-/* A request of the client. The jobs are due in the order 2, 1, 3; the second 2 is refused, since 2 waits already. */
+/* The protocol version that the gateway names in its fixed headers. Every version is read. */
+#define VERSION 1
+
+/* A request of the gateway. The jobs are due in the order 2, 1, 3; the second 2 is refused, since 2 waits already. */
 struct order {
     uint32_t id;
     uint32_t timeout; /* in ms; 0 is no deadline */
@@ -68,6 +71,7 @@ static size_t write_order(const struct order *order, uint8_t *out, size_t room)
         .request_id = order->id,
         .timeout = order->timeout,
         .func = append(&source, order->func),
+        .header_version = VERSION,
     };
     size_t size;
     uint32_t error = trpc_write_request(&request, source.bytes, source.length, (const uint32_t *)&row, 4,
@@ -80,7 +84,7 @@ static size_t write_order(const struct order *order, uint8_t *out, size_t room)
 static size_t write_stream(uint8_t *out, size_t room)
 {
     static const uint8_t beginning[] = {0x09, 0x30, 0, 0, 0, 0, 0};
-    struct trpc_feedback feedback = {.id = 5, .window_size_increment = 300};
+    struct trpc_feedback feedback = {.id = 5, .window_size_increment = 300, .header_version = VERSION};
     size_t length;
     uint32_t error = trpc_write_feedback(&feedback, NULL, 0, NULL, 0, NULL, 0, out, room, &length);
 
@@ -99,7 +103,7 @@ static void print_part(const char *before, const uint8_t *frame, struct trpc_spa
 
 static void print_request(const struct trpc_request *request, const uint8_t *frame, const struct trpc_row *rows)
 {
-    printf("request %" PRIu32 ", timeout %" PRIu32, request->id, request->timeout);
+    printf("request %" PRIu32 ", version %u, timeout %" PRIu32, request->id, request->header_version, request->timeout);
     print_part(", func ", frame, request->func);
     for (uint32_t i = 0; i < request->rows; i++) {
         print_part(", ", frame, rows[i].key);
@@ -115,10 +119,10 @@ static const char *const type_names[] = {"unary", "init", "data", "feedback", "c
 /* Whether a frame may be a request; reports one that is not. The deframer has found its header good. */
 static int is_unary(const uint8_t *frame)
 {
-    uint32_t type, id;
+    uint32_t type, id, version;
     size_t total, header_size;
 
-    trpc_header_parse(frame, TRPC_HEADER_SIZE, &type, &total, &header_size, &id);
+    trpc_header_parse(frame, TRPC_HEADER_SIZE, &type, &total, &header_size, &id, &version);
     printf("frame of %zu bytes: ", total);
     if (type != TRPC_FRAME_UNARY)
         printf("%s of stream %" PRIu32 ", no request\n", type_names[type], id);

@@ -21,7 +21,8 @@
  * - Arguments. Every argument is taken. A bad one is refused with an error code.
  * - Error codes. One is returned exactly when its ground holds and no ground before it in the order does. The order is
  *   at the enum of the codes. 0 is returned where no ground holds. Retired codes are never returned and never used
- *   again: 20 (it was for a header message over 65,535 bytes).
+ *   again: 8 (it was for bytes 15-16 of a header that are not both 0) and 20 (it was for a header message over 65,535
+ *   bytes).
  * - What is left. Each function says what everything lent to it is afterwards, also after a refusal. What is lent as
  *   const is never changed.
  *
@@ -54,7 +55,8 @@ extern "C" {
 
 /*
  * The error codes of trpc_header_check and trpc_header_parse. The header's bytes are counted from 1, and its numbers
- * are big-endian (docs/PROTOCOL.md, "The 16 bytes").
+ * are big-endian (docs/PROTOCOL.md, "The 16 bytes"). Any id (bytes 11-14), any version (byte 15) and any byte 16 is
+ * good.
  *
  * Order: TRPC_HEADER_LENGTH, then the others by rising number.
  */
@@ -65,7 +67,6 @@ enum trpc_header_error {
     TRPC_HEADER_STREAM_TYPE = 5, /* stream frame: byte 4 is not 1 (Init), 2 (Data), 3 (Feedback) or 4 (Close) */
     TRPC_HEADER_TOTAL = 6,       /* bytes 5-8, the frame's size with these 16, are not 16 to 65,536 */
     TRPC_HEADER_HEADER_SIZE = 7, /* bytes 9-10 are more than the total less 16 (unary), or not 0 (stream) */
-    TRPC_HEADER_RESERVED = 8,    /* bytes 15-16 are not both 0 */
     TRPC_HEADER_LENGTH = 9       /* the number of bytes given is not 16 */
 };
 
@@ -105,16 +106,18 @@ enum trpc_frame_type {
  * total        receives the frame's size, its fixed header included.
  * header_size  receives the size of a unary frame's header message. It is 0 for a stream frame.
  * id           receives the request id or stream id, bytes 11-14. It is the one to answer with.
+ * header_version
+ *              receives the protocol version, byte 15: 0 to 255. A record has it under the same name.
  *
- * Returns the code of enum trpc_header_error that trpc_header_check returns. After a refusal all four are 0.
+ * Returns the code of enum trpc_header_error that trpc_header_check returns. After a refusal all five are 0.
  *
- *     code = trpc_header_parse(frame, TRPC_HEADER_SIZE, &frame_type, &total, &header_size, &id);
+ *     code = trpc_header_parse(frame, TRPC_HEADER_SIZE, &frame_type, &total, &header_size, &id, &header_version);
  *     if (code == 0 && frame_type == TRPC_FRAME_FEEDBACK) {
  *         // a Feedback frame of the stream id: trpc_read_feedback(frame, total, ..)
  *     }
  */
 uint32_t trpc_header_parse(const uint8_t *bytes, size_t len, uint32_t *frame_type, size_t *total, size_t *header_size,
-                           uint32_t *id);
+                           uint32_t *id, uint32_t *header_version);
 
 /* ---- Cutting a stream into frames ---- */
 
@@ -129,7 +132,7 @@ uint32_t trpc_header_parse(const uint8_t *bytes, size_t len, uint32_t *frame_typ
  * 1. TRPC_DEFRAME_BUFFER.
  * 2. TRPC_DEFRAME_STATE.
  * 3. The code of a header that was refused before.
- * 4. The codes 3 to 8 of the header whose 16th byte arrives, rising.
+ * 4. The codes 3 to 7 of the header whose 16th byte arrives, rising.
  *
  * The order of trpc_finish is the same without the last.
  *
@@ -137,7 +140,7 @@ uint32_t trpc_header_parse(const uint8_t *bytes, size_t len, uint32_t *frame_typ
  *
  * - Under 16 bytes are held, and the error is 0.
  * - 16 bytes or more are held, the error is 0, the first 16 are a good header, and its total is more than are held.
- * - Exactly 16 bytes are held, the error is 3 to 8, and it is the code of these 16 as a header.
+ * - Exactly 16 bytes are held, the error is 3 to 7, and it is the code of these 16 as a header.
  */
 enum trpc_deframe_error {
     TRPC_DEFRAME_DONE = 0,
@@ -163,7 +166,7 @@ enum trpc_deframe_error {
  *
  * - 0 and *size not 0: a whole frame. Nothing is held.
  * - 0 and *size 0: the piece is used up and more is needed.
- * - 3 to 8: a header is refused. It stays at the start of the buffer, *held is 16 and *error is the code. *taken is how
+ * - 3 to 7: a header is refused. It stays at the start of the buffer, *held is 16 and *error is the code. *taken is how
  *   many bytes of it this call took, and *size is 0. Later calls return the same code, take nothing and leave state and
  *   buffer as they are. Where the next frame starts is not known, so the stream is lost.
  * - 1 and 2: *held, *error and all of the buffer are as they were, *taken and *size are 0.
@@ -213,8 +216,8 @@ struct trpc_span {
 };
 
 /*
- * The record of each kind, 24 numbers of 32 bits. docs/PROTOCOL.md, "The six messages", has the number and the type of
- * each field.
+ * The record of each kind, 100 bytes: 24 numbers of 32 bits, then header_version and three bytes that are unused.
+ * docs/PROTOCOL.md, "The six messages", has the number and the type of each field.
  *
  * id          the request id or stream id of the fixed header, bytes 11-14. It is the one to answer with.
  * request_id  the message's own request id, which is only handed over. A writer writes id and request_id each as it is:
@@ -226,6 +229,10 @@ struct trpc_span {
  *             are empty. Data has only a body.
  * .._present  0 or 1 when read. When written, any number but 0 marks a part as present.
  * zero        0 when read. A writer does not look at it.
+ * header_version
+ *             the protocol version of the fixed header, byte 15. Any value is taken. The `version` of a request or a
+ *             response is a field of its message, another thing.
+ * unused      0 when read. A writer does not look at it.
  *
  * Enumerated numbers pass through as they are.
  */
@@ -247,6 +254,8 @@ struct trpc_request {
     uint32_t content_encoding;
     uint32_t attachment_size;
     uint32_t zero[2];
+    uint8_t header_version;
+    uint8_t unused[3];
 };
 
 struct trpc_response {
@@ -266,6 +275,8 @@ struct trpc_response {
     uint32_t content_encoding;
     uint32_t attachment_size;
     uint32_t zero[5];
+    uint8_t header_version;
+    uint8_t unused[3];
 };
 
 /*
@@ -296,6 +307,8 @@ struct trpc_init {
     uint32_t content_type;
     uint32_t content_encoding;
     uint32_t zero[1];
+    uint8_t header_version;
+    uint8_t unused[3];
 };
 
 struct trpc_data {
@@ -305,6 +318,8 @@ struct trpc_data {
     struct trpc_span body;
     struct trpc_span attachment;
     uint32_t zero[16];
+    uint8_t header_version;
+    uint8_t unused[3];
 };
 
 struct trpc_feedback {
@@ -315,6 +330,8 @@ struct trpc_feedback {
     struct trpc_span attachment;
     uint32_t window_size_increment;
     uint32_t zero[15];
+    uint8_t header_version;
+    uint8_t unused[3];
 };
 
 struct trpc_close {
@@ -329,6 +346,8 @@ struct trpc_close {
     uint32_t message_type;
     int32_t func_ret;
     uint32_t zero[10];
+    uint8_t header_version;
+    uint8_t unused[3];
 };
 
 /* A row of the map trans_info. It is four of the row numbers. */
@@ -346,7 +365,7 @@ struct trpc_row {
  *
  * 1. TRPC_READ_ROWS.
  * 2. TRPC_READ_KIND for fewer than 16 bytes.
- * 3. The codes 3 to 8 of the fixed header, rising.
+ * 3. The codes 3 to 7 of the fixed header, rising.
  * 4. TRPC_READ_KIND for its other grounds.
  * 5. The fields from left to right. At each place: TRPC_READ_VARINT, TRPC_READ_TAG and TRPC_READ_DEPTH of the tag, then
  *    TRPC_READ_VARINT and TRPC_READ_LENGTH of the value, then TRPC_READ_ENTRIES before an entry's inside.
@@ -423,9 +442,10 @@ enum trpc_write_error {
 
 /*
  * Each writes the frame of a record of its kind to the start of the output. Fields are written by rising number, rows
- * in the given order. Numbers that are 0 and byte fields that are empty are left out.
+ * in the given order. Numbers that are 0 and byte fields that are empty are left out. Byte 15 of the frame is the
+ * record's header_version, byte 16 is 0.
  *
- * record  the record. Header, body and attachment in it are not looked at, nor is `zero`.
+ * record  the record. Header, body and attachment in it are not looked at, nor are `zero` and `unused`.
  * source  the bytes that the starts of the record and of its rows count from.
  * rows    four numbers for each of the record's rows (struct trpc_row). Numbers after those are not looked at.
  * body    the frame's body. Of a request or response its last attachment_size bytes are the attachment.
@@ -437,7 +457,7 @@ enum trpc_write_error {
  *
  * What was read can be handed to the writer of its kind: the record and the rows, the frame as the source, and the
  * frame's body. It may be refused with TRPC_WRITE_FRAME, since the frame written may be longer than the one read. That
- * no other code is returned is not promised.
+ * no other code is returned is not promised. Byte 16 is written as 0, whatever it was: the record does not have it.
  *
  *     struct trpc_feedback feedback = {.id = 5, .window_size_increment = 300};
  *     uint8_t out[64];

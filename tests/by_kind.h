@@ -1,13 +1,13 @@
 /*
  * The readers and the writers by a number of the kind: 0 request, 1 response, 2 Init, 3 Data, 4 Feedback, 5 Close. A
- * record is the 24 numbers of the kind's struct.
+ * record is the 25 numbers of the kind's struct: the last is its header_version, if the unused bytes are 0.
  */
 #ifndef BY_KIND_H
 #define BY_KIND_H
 
 #include "bekurapi.h"
 
-enum { KINDS = 6, NUMBERS = 24, ROW_NUMBERS = TRPC_ROW_NUMBERS };
+enum { KINDS = 6, NUMBERS = 25, VERSION_AT = 24, ROW_NUMBERS = TRPC_ROW_NUMBERS };
 
 /* Bytes, or row numbers, that are lent. */
 struct bytes_lent {

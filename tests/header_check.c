@@ -1,7 +1,7 @@
 /*
  * trpc_header_check and trpc_header_parse, as a C program calls them, against a check that is written here on its own:
- * the headers of document 01's examples with the codes that it gives, every value of every byte of several headers, and
- * every length from 0 to 40.
+ * the headers of document 01's examples with the codes that it gives, every value of every byte of several headers, every
+ * pair of values of the last two, and every length from 0 to 40.
  */
 #include <stdio.h>
 #include <stdlib.h>
@@ -16,7 +16,10 @@ static uint32_t be32(const uint8_t *bytes)
     return (uint32_t)bytes[0] << 24 | (uint32_t)bytes[1] << 16 | (uint32_t)bytes[2] << 8 | bytes[3];
 }
 
-/* Document 01, "The 16 bytes" and "Refusal numbers", as one condition after another. */
+/*
+ * Document 01, "The 16 bytes" and "Refusal numbers", as one condition after another. By document 02 no condition is about
+ * bytes 15 and 16.
+ */
 static uint32_t expected(const uint8_t *h, size_t len)
 {
     if (len != 16)
@@ -25,15 +28,14 @@ static uint32_t expected(const uint8_t *h, size_t len)
     uint32_t magic = (uint32_t)h[0] << 8 | h[1];
     uint32_t total = be32(h + 4);
     uint32_t header_size = (uint32_t)h[8] << 8 | h[9];
-    uint32_t reserved = (uint32_t)h[14] << 8 | h[15];
     int unary = h[2] == 0;
 
-    return magic != 0x0930                                   ? 3
-           : h[2] > 1                                        ? 4
-           : !unary && (h[3] < 1 || h[3] > 4)                ? 5
-           : total < 16 || total > 65536                     ? 6
-           : unary ? (header_size + 16 > total ? 7 : reserved ? 8 : 0)
-                   : (header_size != 0 ? 7 : reserved ? 8 : 0);
+    return magic != 0x0930                                         ? 3
+           : h[2] > 1                                              ? 4
+           : !unary && (h[3] < 1 || h[3] > 4)                      ? 5
+           : total < 16 || total > 65536                           ? 6
+           : (unary ? header_size + 16 > total : header_size != 0) ? 7
+                                                                   : 0;
 }
 
 static void fail(const char *what, const uint8_t *bytes, size_t len, uint32_t want, uint32_t got)
@@ -48,14 +50,15 @@ static void fail(const char *what, const uint8_t *bytes, size_t len, uint32_t wa
 /* What a good header says; all zero where it is refused. */
 static void check_parse(const uint8_t *bytes, size_t len, uint32_t want)
 {
-    uint32_t type = 99, id = 99;
+    uint32_t type = 99, id = 99, version = 999;
     size_t total = 99, header_size = 99;
-    uint32_t got = trpc_header_parse(bytes, len, &type, &total, &header_size, &id);
+    uint32_t got = trpc_header_parse(bytes, len, &type, &total, &header_size, &id, &version);
     if (got != want)
         fail("the code of the parser", bytes, len, want, got);
-    int right = want != 0 ? type == 0 && total == 0 && header_size == 0 && id == 0
+    int right = want != 0 ? type == 0 && total == 0 && header_size == 0 && id == 0 && version == 0
                           : type == (bytes[2] == 0 ? 0u : bytes[3]) && total == be32(bytes + 4) &&
-                                header_size == bytes[8] * 256u + bytes[9] && id == be32(bytes + 10);
+                                header_size == bytes[8] * 256u + bytes[9] && id == be32(bytes + 10) &&
+                                version == bytes[14];
     if (!right)
         fail("what the header says", bytes, len, want, got);
 }
@@ -79,7 +82,10 @@ struct row {
     uint32_t code;
 };
 
-/* The rows of document 01's "Checked examples" that are about a header, and one or more for each other code. */
+/*
+ * The rows of document 01's "Checked examples" that are about a header, one or more for each other code, and bytes 15 and
+ * 16 at values that were refused before document 02.
+ */
 static const struct row rows[] = {
     {"unary, id 7", {0x09, 0x30, 0, 0, 0, 0, 0, 16, 0, 0, 0, 0, 0, 7, 0, 0}, 0},
     {"total 15", {0x09, 0x30, 0, 0, 0, 0, 0, 15, 0, 0, 0, 0, 0, 7, 0, 0}, 6},
@@ -94,8 +100,9 @@ static const struct row rows[] = {
     {"stream, header size 1", {0x09, 0x30, 1, 2, 0, 0, 0, 20, 0, 1, 0, 0, 0, 7, 0, 0}, 7},
     {"the listing's Feedback", {0x09, 0x30, 1, 3, 0, 0, 0, 19, 0, 0, 0, 0, 0, 5, 0, 0}, 0},
     {"data type 2", {0x09, 0x30, 2, 1, 0, 0, 0, 16, 0, 0, 0, 0, 0, 7, 0, 0}, 4},
-    {"byte 15", {0x09, 0x30, 0, 0, 0, 0, 0, 16, 0, 0, 0, 0, 0, 7, 1, 0}, 8},
-    {"byte 16", {0x09, 0x30, 0, 0, 0, 0, 0, 16, 0, 0, 0, 0, 0, 7, 0, 1}, 8},
+    {"byte 15 at 1", {0x09, 0x30, 0, 0, 0, 0, 0, 16, 0, 0, 0, 0, 0, 7, 1, 0}, 0},
+    {"byte 16 at FF", {0x09, 0x30, 0, 0, 0, 0, 0, 16, 0, 0, 0, 0, 0, 7, 0, 0xFF}, 0},
+    {"stream, bytes 15 and 16 at FF", {0x09, 0x30, 1, 2, 0, 0, 0, 16, 0, 0, 0, 0, 0, 7, 0xFF, 0xFF}, 0},
     {"a unary frame's stream type", {0x09, 0x30, 0, 9, 0, 0, 0, 16, 0, 0, 0, 0, 0, 7, 0, 0}, 0},
     {"every rule broken", {0x30, 0x09, 2, 9, 0, 0, 0, 0, 1, 1, 0, 0, 0, 7, 1, 1}, 3},
     {"all but the magic", {0x09, 0x30, 2, 9, 0, 0, 0, 0, 1, 1, 0, 0, 0, 7, 1, 1}, 4},
@@ -122,6 +129,15 @@ int main(void)
                 bytes[at] = (uint8_t)value;
                 check("a byte changed", bytes, 16, expected(bytes, 16));
             }
+
+    /* every pair of values of bytes 15 and 16 of every row: the code stays that of the row */
+    for (size_t r = 0; r < count; r++)
+        for (unsigned values = 0; values < 65536; values++) {
+            memcpy(bytes, rows[r].header, 14);
+            bytes[14] = (uint8_t)(values >> 8);
+            bytes[15] = (uint8_t)values;
+            check("bytes 15 and 16", bytes, 16, rows[r].code);
+        }
 
     /* every length, of headers with other bytes after them */
     for (size_t r = 0; r < count; r++)

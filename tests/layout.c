@@ -5,16 +5,21 @@
 #include "bekurapi.h"
 
 #define AT(type, member, number) _Static_assert(offsetof(struct type, member) == 4 * (number), #type ": " #member)
-#define NUMBERS_24(type) _Static_assert(sizeof(struct type) == 4 * 24 && _Alignof(struct type) == 4, #type)
+#define BYTE(type, member, byte) _Static_assert(offsetof(struct type, member) == (byte), #type ": " #member)
+#define NUMBERS_25(type) _Static_assert(sizeof(struct type) == 4 * 25 && _Alignof(struct type) == 4, #type)
 
-/* What each record begins with. */
+/* What each record begins and ends with. The version is the low byte of number 24, which is its first. */
 #define RECORD(type)                                                                                                   \
-    NUMBERS_24(type);                                                                                                  \
+    NUMBERS_25(type);                                                                                                  \
     AT(type, id, 0);                                                                                                   \
     AT(type, rows, 1);                                                                                                 \
     AT(type, header, 2);                                                                                               \
     AT(type, body, 4);                                                                                                 \
-    AT(type, attachment, 6)
+    AT(type, attachment, 6);                                                                                           \
+    AT(type, header_version, 24);                                                                                      \
+    BYTE(type, unused, 4 * 24 + 1)
+
+_Static_assert(__BYTE_ORDER__ == __ORDER_LITTLE_ENDIAN__, "the low byte of a number is its first");
 
 _Static_assert(sizeof(struct trpc_span) == 8, "a start and a length");
 _Static_assert(sizeof(struct trpc_row) == 16, "four numbers");

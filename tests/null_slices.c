@@ -45,13 +45,13 @@ static int has(unsigned empty, unsigned parameter)
 static void headers(void)
 {
     for (int null = 0; null < 2; null++) {
-        uint32_t type = 9, id = 9;
+        uint32_t type = 9, id = 9, version = 9;
         size_t total = 9, size = 9;
 
         expect("trpc_header_check", 0, 1, trpc_header_check(nothing(null), 0) == TRPC_HEADER_LENGTH);
         expect("trpc_header_parse", 0, 1,
-               trpc_header_parse(nothing(null), 0, &type, &total, &size, &id) == TRPC_HEADER_LENGTH);
-        expect("what a refused header says", 0, 1, type == 0 && total == 0 && size == 0 && id == 0);
+               trpc_header_parse(nothing(null), 0, &type, &total, &size, &id, &version) == TRPC_HEADER_LENGTH);
+        expect("what a refused header says", 0, 1, type == 0 && total == 0 && size == 0 && id == 0 && version == 0);
     }
 }
 
@@ -101,6 +101,7 @@ static void read_one(struct reading *r, uint32_t kind, unsigned empty, int null)
     uint32_t *rows = has(empty, 1) ? nothing(null) : r->rows;
 
     put_header(frame, kind, sizeof frame, 0, 7);
+    frame[14] = 3;
     memset(r, GUARD, sizeof *r);
     r->code = read_as(kind, lent, has(empty, 0) ? 0 : sizeof frame, rows, has(empty, 1) ? 0 : ROW_NUMBERS, r->record);
 }
@@ -116,6 +117,7 @@ static void reading(uint32_t kind)
         expect("its answer", kind, empty,
                null.code == (uint32_t)(has(empty, 1) ? TRPC_READ_ROWS : has(empty, 0) ? TRPC_READ_KIND : TRPC_READ_DONE));
         expect("the id", kind, empty, null.record[0] == (empty == 0 ? 7 : 0));
+        expect("the version", kind, empty, null.record[VERSION_AT] == (empty == 0 ? 3 : 0));
     }
 }
 

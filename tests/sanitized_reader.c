@@ -2,7 +2,7 @@
  * The six readers on damaged frames, each lent buffer exactly as long as it is said to be: once from malloc, under
  * -fsanitize=address,undefined, and, since the archive's own code carries no checks of the sanitizer, once before and
  * once after a page that cannot be touched. The three have to answer the same; what a refusal leaves has to be as
- * document 01 says.
+ * document 01 says, and the version of a record is the frame's byte 15.
  */
 #define _DEFAULT_SOURCE
 #include <stdio.h>
@@ -174,6 +174,8 @@ static void make_frame(struct bytes *frame, uint32_t kind)
 {
     frame->len = 16;
     put_header(frame->at, kind, 0, 0, any());
+    frame->at[14] = (uint8_t)any();
+    frame->at[15] = (uint8_t)any();
     if (below(20) == 0)
         put_entries(frame, kind);
     put_fields(frame, below(8), 0);
@@ -272,8 +274,10 @@ static uint32_t check(uint32_t kind, const struct bytes *frame, size_t rows, str
     };
     uint32_t code = answer(kind, frame, exact, rows);
 
-    if (code != 0 && (code < 3 || code >= CODES))
+    if (code != 0 && (code < 3 || code == 8 || code >= CODES))
         fail("no such refusal", kind, frame, code);
+    if (code == 0 && exact.record[VERSION_AT] != frame->at[14])
+        fail("the version", kind, frame, code);
     if (code != 0 && !left_as_said(code, exact, rows))
         fail("the row numbers or the record after a refusal", kind, frame, code);
     if (memcmp(exact.frame, frame->at, frame->len) != 0)

@@ -129,10 +129,10 @@ static void call_check(void)
 
 static void call_parse(void)
 {
-    uint32_t type, id;
+    uint32_t type, id, version;
     size_t total, size;
 
-    code = trpc_header_parse(frame, TRPC_HEADER_SIZE, &type, &total, &size, &id);
+    code = trpc_header_parse(frame, TRPC_HEADER_SIZE, &type, &total, &size, &id, &version);
 }
 
 static size_t cut; /* how much of the frame comes with a call of its own */

@@ -50,12 +50,12 @@ uint64_t nanopb_read(uint32_t kind, void *message, const uint8_t *frame, size_t 
     size_t body = len - FRAME_HEADER - (size_t)size;
     if (attachment_size(kind, message) > body)
         return FRAME_REFUSED;
-    return (kind == 0 ? found_request(message) : found_response(message)) + body;
+    return (kind == 0 ? found_request(message) : found_response(message)) + body + frame_version(frame);
 }
 
 /* The size of the frame, 0 where it has no room. */
-size_t nanopb_write(uint32_t kind, const void *message, uint32_t id, const uint8_t *body, size_t body_len, uint8_t *out,
-                    size_t out_len)
+size_t nanopb_write(uint32_t kind, const void *message, uint32_t id, uint8_t version, const uint8_t *body, size_t body_len,
+                    uint8_t *out, size_t out_len)
 {
     size_t room = out_len < FRAME_LARGEST ? out_len : FRAME_LARGEST;
     if (room < FRAME_HEADER + body_len || attachment_size(kind, message) > body_len)
@@ -65,7 +65,7 @@ size_t nanopb_write(uint32_t kind, const void *message, uint32_t id, const uint8
         return 0;
     size_t size = stream.bytes_written;
     size_t total = FRAME_HEADER + size + body_len;
-    frame_start(out, total, size, id);
+    frame_start(out, total, size, id, version);
     memcpy(out + FRAME_HEADER + size, body, body_len);
     return total;
 }

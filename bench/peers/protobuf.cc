@@ -33,18 +33,19 @@ uint64_t read(Message &message, const uint8_t *frame, size_t len)
     size_t body = len - FRAME_HEADER - size_t(size);
     if (message.attachment_size() > body)
         return FRAME_REFUSED;
-    return found(message) + body;
+    return found(message) + body + frame_version(frame);
 }
 
 // The size of the frame, 0 where it has no room.
 template <class Message>
-size_t write(const Message &message, uint32_t id, const uint8_t *body, size_t body_len, uint8_t *out, size_t out_len)
+size_t write(const Message &message, uint32_t id, uint8_t version, const uint8_t *body, size_t body_len, uint8_t *out,
+             size_t out_len)
 {
     size_t size = message.ByteSizeLong();
     size_t total = FRAME_HEADER + size + body_len;
     if (message.attachment_size() > body_len || total > FRAME_LARGEST || total > out_len)
         return 0;
-    frame_start(out, total, size, id);
+    frame_start(out, total, size, id, version);
     uint8_t *end = message.SerializeWithCachedSizesToArray(out + FRAME_HEADER);
     memcpy(end, body, body_len);
     return total;
@@ -101,7 +102,7 @@ size_t write_fresh(const uint32_t *record, const uint8_t *source, const uint32_t
 {
     Message message;
     fill(message, record, source, rows);
-    return write(message, record[0], body, body_len, out, out_len);
+    return write(message, record[0], uint8_t(record[24]), body, body_len, out, out_len);
 }
 
 } // namespace
@@ -130,11 +131,11 @@ uint64_t protobuf_read_fresh(uint32_t kind, const uint8_t *frame, size_t len)
     return read(message, frame, len);
 }
 
-size_t protobuf_write(uint32_t kind, const void *message, uint32_t id, const uint8_t *body, size_t body_len, uint8_t *out,
-                      size_t out_len)
+size_t protobuf_write(uint32_t kind, const void *message, uint32_t id, uint8_t version, const uint8_t *body, size_t body_len,
+                      uint8_t *out, size_t out_len)
 {
-    return kind == 0 ? write(*static_cast<const RequestProtocol *>(message), id, body, body_len, out, out_len)
-                     : write(*static_cast<const ResponseProtocol *>(message), id, body, body_len, out, out_len);
+    return kind == 0 ? write(*static_cast<const RequestProtocol *>(message), id, version, body, body_len, out, out_len)
+                     : write(*static_cast<const ResponseProtocol *>(message), id, version, body, body_len, out, out_len);
 }
 
 size_t protobuf_write_fresh(uint32_t kind, const uint32_t *record, const uint8_t *source, const uint32_t *rows,

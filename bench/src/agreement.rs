@@ -4,7 +4,7 @@
 use crate::entries::{Deframe, HeaderCheck, QueueCalls};
 use crate::frames::{mixed_total, Frames};
 use crate::inputs::{headers, large_requests, responses, small_requests, Input};
-use crate::library::{self, FIELDS, PARTS, RECORD_NUMBERS};
+use crate::library::{self, FIELDS, PARTS, RECORD_NUMBERS, VERSION};
 use crate::plain::header::LARGEST;
 use crate::plain::messages::Message;
 use crate::plain::queue::{Job, Queue, CAPACITY};
@@ -74,7 +74,7 @@ fn check_peers<M: Message>(i: &Input<M>) {
         let mut out = vec![0; LARGEST];
         let message = protobuf::new(M::KIND);
         protobuf::read(message, &i.frame);
-        let size = protobuf::write(message, i.record.id, &i.body, &mut out);
+        let size = protobuf::write(message, &i.record, &i.body, &mut out);
         assert!(sorted(&out[..size]) == sorted(&i.frame), "protobuf C++ writes another frame");
         let size = protobuf::write_fresh(M::KIND, &i.numbers, &i.source, &i.rows, &i.body, &mut out);
         assert!(sorted(&out[..size]) == sorted(&i.frame), "protobuf C++ writes another frame");
@@ -85,7 +85,7 @@ fn check_peers<M: Message>(i: &Input<M>) {
         let mut out = vec![0; LARGEST];
         let message = nanopb::new(M::KIND);
         nanopb::read(message, &i.frame);
-        let size = nanopb::write(message, i.record.id, &i.body, &mut out);
+        let size = nanopb::write(message, &i.record, &i.body, &mut out);
         assert!(out[..size] == i.frame, "nanopb writes another frame");
     }
 }
@@ -110,6 +110,7 @@ fn numbers<M: Message>(reading: &Reading<M>) -> [u32; RECORD_NUMBERS] {
     }
     let fields = reading.record.message.numbers();
     numbers[FIELDS..FIELDS + fields.len()].copy_from_slice(&fields);
+    numbers[VERSION] = reading.record.header_version.into();
     numbers
 }
 

@@ -3,7 +3,7 @@
 use crate::entries::{Deframe, HeaderCheck, QueueCalls};
 use crate::frames::{mixed_total, small_total, Frames};
 use crate::inputs::{headers, large_requests, responses, small_requests, Input, VARIANTS};
-use crate::library::{self, PARTS, RECORD_NUMBERS};
+use crate::library::{self, PARTS, RECORD_NUMBERS, VERSION};
 use crate::plain::deframer::{Buffer, Deframer};
 use crate::plain::messages::{Message, Request, Response};
 use crate::plain::queue::{Job, Queue, CAPACITY};
@@ -63,7 +63,7 @@ fn header_check() -> Case {
 
 /// What a record says, as one number that each reader can tell: the peers' sources have the same sum.
 trait Found: Message {
-    /// Where the numbers of the sum are in a record's 24.
+    /// Where the numbers of the sum are in a record's 25.
     const PLACES: &'static [usize];
 
     fn found(&self) -> u64;
@@ -91,14 +91,15 @@ impl Found for Response {
 #[inline]
 fn found_in<M: Found>(error: Error, numbers: &[u32; RECORD_NUMBERS]) -> u64 {
     assert_eq!(error, 0);
-    let beside = u64::from(numbers[1]) + u64::from(numbers[PARTS + 3]);
+    let beside = u64::from(numbers[1]) + u64::from(numbers[PARTS + 3]) + u64::from(numbers[VERSION]);
     M::PLACES.iter().map(|place| u64::from(numbers[*place])).sum::<u64>() + beside
 }
 
 #[inline]
 fn found<M: Found>(reading: Result<Reading<M>, Error>) -> u64 {
     let reading = reading.expect("a good frame");
-    reading.record.message.found() + reading.record.row_count as u64 + u64::from(reading.body.length)
+    let beside = u64::from(reading.body.length) + u64::from(reading.record.header_version);
+    reading.record.message.found() + reading.record.row_count as u64 + beside
 }
 
 /// A pass over the inputs: the sum of what `one` says of each.
@@ -187,9 +188,8 @@ fn writing_peers<M: Found + 'static>(mut case: Case, inputs: &Rc<Vec<Input<M>>>)
             message
         };
         let messages: Vec<_> = inputs.iter().map(filled).collect();
-        let reused = move |index: usize, i: &Input<M>, out: &mut [u8]| {
-            protobuf::write(messages[index], i.record.id, &i.body, out)
-        };
+        let reused =
+            move |index: usize, i: &Input<M>, out: &mut [u8]| protobuf::write(messages[index], &i.record, &i.body, out);
         let fresh = |_, i: &Input<M>, out: &mut [u8]| {
             protobuf::write_fresh(M::KIND, &i.numbers, &i.source, &i.rows, &i.body, out)
         };
@@ -205,7 +205,7 @@ fn writing_peers<M: Found + 'static>(mut case: Case, inputs: &Rc<Vec<Input<M>>>)
         };
         let messages: Vec<_> = inputs.iter().map(filled).collect();
         let reused =
-            move |index: usize, i: &Input<M>, out: &mut [u8]| nanopb::write(messages[index], i.record.id, &i.body, out);
+            move |index: usize, i: &Input<M>, out: &mut [u8]| nanopb::write(messages[index], &i.record, &i.body, out);
         case = case.with(NANOPB, to_buffer(inputs, reused));
     }
     case

@@ -1,4 +1,4 @@
-//! Streams of good frames.
+//! Streams of good frames, each of some protocol version, and with some reserved byte.
 
 use crate::plain::header::{LARGEST, SIZE};
 use crate::random::Random;
@@ -39,8 +39,9 @@ fn frame(random: &mut Random, total: u64) -> Vec<u8> {
     let mut bytes = vec![0x09, 0x30, !unary as u8, if unary { 0 } else { random.between(1, 4) as u8 }];
     bytes.extend((total as u32).to_be_bytes());
     bytes.extend(header_size.to_be_bytes());
-    bytes.extend((random.number() as u32).to_be_bytes());
-    bytes.extend([0, 0]);
+    let drawn = random.number();
+    bytes.extend((drawn as u32).to_be_bytes());
+    bytes.extend([(drawn >> 32) as u8, (drawn >> 40) as u8]);
     while (bytes.len() as u64) < total {
         bytes.extend(random.number().to_le_bytes());
     }

@@ -1,6 +1,7 @@
-//! The frames that are read and written: 64 of each sort, so that branch prediction does not learn one by heart.
+//! The frames that are read and written: 64 of each sort, so that branch prediction does not learn one by heart. Each has some
+//! protocol version.
 
-use crate::library::{FIELDS, RECORD_NUMBERS};
+use crate::library::{FIELDS, RECORD_NUMBERS, VERSION};
 use crate::plain::header::LARGEST;
 use crate::plain::messages::{Message, Record, Request, Response, Span};
 use crate::plain::writer;
@@ -54,12 +55,15 @@ impl Source {
     }
 
     fn input<M: Message>(mut self, message: M, body: u64) -> Input<M> {
-        let record = Record { id: self.random.number() as u32, row_count: self.rows.len() / 4, message };
+        let drawn = self.random.number();
+        let (id, header_version) = (drawn as u32, (drawn >> 32) as u8);
+        let record = Record { id, header_version, row_count: self.rows.len() / 4, message };
         let mut numbers = [0; RECORD_NUMBERS];
         numbers[0] = record.id;
         numbers[1] = record.row_count as u32;
         let fields = message.numbers();
         numbers[FIELDS..FIELDS + fields.len()].copy_from_slice(&fields);
+        numbers[VERSION] = header_version.into();
         let body = self.random.bytes(body);
         let mut frame = vec![0; LARGEST];
         let size =

@@ -8,11 +8,12 @@ use bekurapi_sys as ffi;
 
 /// The record of a kind as numbers, and how many they are.
 pub use bekurapi_sys::Numbers;
-pub const RECORD_NUMBERS: usize = 24;
+pub const RECORD_NUMBERS: usize = 25;
 
-/// Where the parts and the fields are in them.
+/// Where the parts, the fields and the version are in them.
 pub const PARTS: usize = 2;
 pub const FIELDS: usize = 8;
+pub const VERSION: usize = 24;
 
 // SAFETY, for every call below: each pointer is that of a slice or reference that lives through the call, with the slice's
 // length beside it, and the library keeps none of them.

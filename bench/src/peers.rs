@@ -16,6 +16,8 @@ pub struct Message {
 #[cfg(protobuf)]
 pub mod protobuf {
     use super::Message;
+    use crate::library::Numbers;
+    use crate::plain::messages::Record;
     use std::ffi::c_void;
 
     extern "C" {
@@ -26,6 +28,7 @@ pub mod protobuf {
             kind: u32,
             message: *const c_void,
             id: u32,
+            version: u8,
             body: *const u8,
             body_len: usize,
             out: *mut u8,
@@ -57,23 +60,27 @@ pub mod protobuf {
         unsafe { protobuf_read_fresh(kind, frame.as_ptr(), frame.len()) }
     }
 
+    /// The message with the id and the version of a record.
     #[inline]
-    pub fn write(message: Message, id: u32, body: &[u8], out: &mut [u8]) -> usize {
+    pub fn write<M>(message: Message, record: &Record<M>, body: &[u8], out: &mut [u8]) -> usize {
+        let Record { id, header_version, .. } = *record;
         unsafe {
-            protobuf_write(message.kind, message.object, id, body.as_ptr(), body.len(), out.as_mut_ptr(), out.len())
+            protobuf_write(
+                message.kind,
+                message.object,
+                id,
+                header_version,
+                body.as_ptr(),
+                body.len(),
+                out.as_mut_ptr(),
+                out.len(),
+            )
         }
     }
 
     /// The record's places lie in the source, and its rows are there.
     #[inline]
-    pub fn write_fresh(
-        kind: u32,
-        record: &[u32; 24],
-        source: &[u8],
-        rows: &[u32],
-        body: &[u8],
-        out: &mut [u8],
-    ) -> usize {
+    pub fn write_fresh(kind: u32, record: &Numbers, source: &[u8], rows: &[u32], body: &[u8], out: &mut [u8]) -> usize {
         assert!(rows.len() >= 4 * record[1] as usize);
         unsafe {
             protobuf_write_fresh(
@@ -93,6 +100,7 @@ pub mod protobuf {
 #[cfg(nanopb)]
 pub mod nanopb {
     use super::Message;
+    use crate::plain::messages::Record;
     use std::ffi::c_void;
 
     extern "C" {
@@ -102,6 +110,7 @@ pub mod nanopb {
             kind: u32,
             message: *const c_void,
             id: u32,
+            version: u8,
             body: *const u8,
             body_len: usize,
             out: *mut u8,
@@ -118,10 +127,21 @@ pub mod nanopb {
         unsafe { nanopb_read(message.kind, message.object, frame.as_ptr(), frame.len()) }
     }
 
+    /// The message with the id and the version of a record.
     #[inline]
-    pub fn write(message: Message, id: u32, body: &[u8], out: &mut [u8]) -> usize {
+    pub fn write<M>(message: Message, record: &Record<M>, body: &[u8], out: &mut [u8]) -> usize {
+        let Record { id, header_version, .. } = *record;
         unsafe {
-            nanopb_write(message.kind, message.object, id, body.as_ptr(), body.len(), out.as_mut_ptr(), out.len())
+            nanopb_write(
+                message.kind,
+                message.object,
+                id,
+                header_version,
+                body.as_ptr(),
+                body.len(),
+                out.as_mut_ptr(),
+                out.len(),
+            )
         }
     }
 }

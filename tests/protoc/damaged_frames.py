@@ -136,9 +136,7 @@ def fixed_headers():
         ("total 15", "request", {"total": 15}),
         ("total 65,537", "request", {"total": 65537}),
         ("header size past the total", "request", {"header_size": 9}),
-        ("reserved 1", "response", {"reserved": 1}),
-        ("reserved 256", "feedback", {**stream, "reserved": 256}),
-        ("every rule broken", "init", dict(magic=0, data_type=2, total=5, header_size=9, reserved=1)),
+        ("every rule broken", "init", dict(magic=0, data_type=2, total=5, header_size=9)),
     ):
         if "stream_type" in change:
             yield Case(label, kind, b"\x08\x05", frame=fixed(**change) + b"\x08\x05", lent=300)

@@ -1,4 +1,4 @@
-"""The messages of trpc.proto, and document 01's reading of a frame."""
+"""The messages of trpc.proto, and document 01's reading of a frame, with document 02's bytes 15 and 16 (P2)."""
 
 import os
 import re
@@ -68,7 +68,8 @@ class Reader(Walk):
         self.rows, self.entries = [], 0
 
     def read(self):
-        """The fields by name; then the rows are in `rows` and the parts in `header`, `body` and `attachment`."""
+        """The fields by name. Then the version is in `version`, the rows are in `rows`, and the parts are in `header`,
+        `body` and `attachment`."""
         frame = self.string
         if self.lent < ROW_NUMBERS:
             raise Refused(16)
@@ -83,6 +84,7 @@ class Reader(Walk):
         attachment_size = values.get("attachment_size", 0)
         if attachment_size > total - split:
             raise Refused(15)
+        self.version = frame[14]
         self.header, self.body, self.attachment = frame[16:split], frame[split:], frame[total - attachment_size :]
         return values
 
@@ -95,7 +97,6 @@ class Reader(Walk):
             not unary and not 1 <= frame[3] <= 4,
             not 16 <= total <= 65536,
             header_size > (total - 16 if unary else 0),
-            frame[14:16] != b"\0\0",
         )
         for code, holds in enumerate(grounds, 3):
             if holds:
@@ -157,22 +158,42 @@ def span(value):
 
 class Case:
     """A frame that is read as a kind. `given` has the values of a whole frame's message, and None that the frame is
-    damaged; `header` is what protoc is asked about."""
+    damaged; `header` is what protoc is asked about. `version` and `last` are bytes 15 and 16 of the frame; with no
+    `version` both are by the case's number."""
 
     def __init__(self, label, kind, header, body=b"", given=None, frame=None, lent=ROW_NUMBERS, number=7):
         self.label, self.kind, self.lent, self.id = label, kind, lent, number
         self.header, self.body, self.given = header, body, given
         self.frame = framed(kind, header, body, number) if frame is None else frame
+        self.version, self.last = None, 0
+
+    def put_last_two(self, count):
+        """Puts bytes 15 and 16 into the frame, as far as it has them; `count` is the case's number."""
+        if self.version is None:
+            self.version, self.last = version_of(count), last_of(count)
+        self.frame = (self.frame[:14] + bytes([self.version, self.last]) + self.frame[16:])[: len(self.frame)]
 
 
-def framed(kind, header, body=b"", number=7):
+def version_of(count):
+    """The version of a case: of each second one 0, 1 or 255, of the others every version by turns."""
+    return count // 2 % 256 if count % 2 else (0, 1, 255)[count // 2 % 3]
+
+
+def last_of(count):
+    """Byte 16 of a case: of each fifth one not 0."""
+    return 1 + count % 255 if count % 5 == 0 else 0
+
+
+def framed(kind, header, body=b"", number=7, version=0):
     total = 16 + len(header) + len(body)
     assert total <= 65536 and not (body and kind in ("init", "feedback", "close"))
     if kind in UNARY:
-        return fixed(total=total, header_size=len(header), number=number) + header + body
-    return fixed(data_type=1, stream_type=STREAM_TYPES[kind], total=total, number=number) + header + body
+        own = {"header_size": len(header)}
+    else:
+        own = {"data_type": 1, "stream_type": STREAM_TYPES[kind]}
+    return fixed(**own, total=total, number=number, version=version) + header + body
 
 
-def fixed(magic=0x0930, data_type=0, stream_type=0, total=16, header_size=0, number=7, reserved=0):
-    sizes = ((magic, 2), (data_type, 1), (stream_type, 1), (total, 4), (header_size, 2), (number, 4), (reserved, 2))
-    return b"".join(value.to_bytes(size, "big") for value, size in sizes)
+def fixed(magic=0x0930, data_type=0, stream_type=0, total=16, header_size=0, number=7, version=0):
+    sizes = ((magic, 2), (data_type, 1), (stream_type, 1), (total, 4), (header_size, 2), (number, 4), (version, 1))
+    return b"".join(value.to_bytes(size, "big") for value, size in sizes) + b"\0"

@@ -1,6 +1,6 @@
 """Whole frames: what protoc is given, and fields that are made by hand where no message of trpc.proto has them."""
 
-from messages import MAP, MESSAGES, MOST_ENTRIES, NUMBERS, ROW_NUMBERS, SCHEMAS, UNARY
+from messages import KINDS, MAP, MESSAGES, MOST_ENTRIES, NUMBERS, ROW_NUMBERS, SCHEMAS, UNARY
 from messages import Case, as_type, fields_of, in_message, map_number
 from values import merge, on_the_wire
 from walk import Dice, bytes_field, group, groups, number_field, tag, varint
@@ -18,11 +18,13 @@ class Made:
 
 
 class Wanted:
-    """A whole frame: its header is the pieces, joined."""
+    """A whole frame: its header is the pieces, joined. `last_two` are its bytes 15 and 16, where they are not by its
+    number."""
 
-    def __init__(self, label, kind, *pieces, body=b"", lent=ROW_NUMBERS, number=7, stream_type=None):
+    def __init__(self, label, kind, *pieces, body=b"", lent=ROW_NUMBERS, number=7, stream_type=None, last_two=None):
         self.label, self.kind, self.pieces = label, kind, pieces
         self.body, self.lent, self.number, self.stream_type = body, lent, number, stream_type
+        self.last_two = last_two or (None, 0)
 
     def case(self, tool):
         header, given = b"", {}
@@ -36,6 +38,7 @@ class Wanted:
             header += content
             merge(given, values)
         case = Case(self.label, self.kind, header, self.body, given, lent=self.lent, number=self.number)
+        case.version, case.last = self.last_two
         if self.stream_type is not None:
             case.frame = case.frame[:3] + bytes([self.stream_type]) + case.frame[4:]
         return case
@@ -187,6 +190,20 @@ def parts():
     yield Wanted("response, largest header", "response", largest)
 
 
+def last_two_bytes():
+    """Document 02, P2: byte 15 is the protocol version, and byte 16 is not looked at. The version of a request's or a
+    response's message is another one."""
+    for kind in KINDS:
+        some = [{"version": 2}] if kind in UNARY else []
+        for label, last_two in (
+            ("version 1", (1, 0)),
+            ("version 255", (255, 0)),
+            ("byte 16 not 0", (0, 1)),
+            ("version 1 and byte 16 not 0", (1, 255)),
+        ):
+            yield Wanted(f"{kind}, {label}", kind, *some, last_two=last_two)
+
+
 def strange_fields():
     """Fields that no message has, or that have another wire type: each is skipped."""
     fixed32, fixed64 = tag(15, 5) + b"abcd", tag(15, 1) + b"abcdefgh"
@@ -285,12 +302,15 @@ def random_headers(dice):
 
 def whole():
     dice = Dice(2026)
-    yield from examples()
+    for example in examples():
+        example.last_two = (0, 0)
+        yield example
     yield from single_fields()
     yield from maps()
     yield from all_fields(dice)
     yield from metas()
     yield from parts()
+    yield from last_two_bytes()
     yield from strange_fields()
     yield from long_varints()
     yield from strange_entries()

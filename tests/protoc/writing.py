@@ -1,4 +1,4 @@
-"""Calls of the writer, and document 01's writing of a record."""
+"""Calls of the writer, and document 01's writing of a record, with the version of document 02 (P2)."""
 
 from messages import KINDS, MAP, NUMBERS, SCHEMAS, UNARY, fields_of, framed
 from values import quoted
@@ -15,11 +15,12 @@ class Call:
 
     `fields` has numbers and spans (start, length) by name, and for a part of Init a dict of its fields with the mark
     `present`; what is missing is zero. `wanted` is the error code that the case is made for, 0 for a frame, None where
-    nobody says. With no `room` the output is `spare` bytes longer than the frame, or ROOM bytes where there is none."""
+    nobody says. `version` is None where it is by the call's number. With no `room` the output is `spare` bytes longer
+    than the frame, or ROOM bytes where there is none."""
 
     def __init__(self, label, kind, fields, numbers, source, **rest):
         self.label, self.kind, self.fields, self.numbers, self.source = label, kind, fields, list(numbers), source
-        self.body, self.id, self.wanted = b"", 7, 0
+        self.body, self.id, self.version, self.wanted = b"", 7, None, 0
         self.count, self.room, self.spare = len(self.numbers) // 4, None, 9
         self.change(**rest)
 
@@ -194,7 +195,7 @@ def packed(label, call):
     kind = KINDS.index(call.kind)
     fields = list(slots(fields_of(call.kind), call.fields))
     head = [len(label), len(call.numbers), len(call.source), len(call.body), call.output(), source, body]
-    head += [kind, call.id, call.count, *fields, *[0] * (SLOTS - len(fields))]
+    head += [kind, call.id, call.count, call.version, *fields, *[0] * (SLOTS - len(fields))]
     return joined(head) + label + joined(call.numbers) + call.source[:source] + call.body[:body]
 
 
@@ -203,4 +204,4 @@ def joined(numbers):
 
 
 def frame_of(call, header):
-    return framed(call.kind, header, call.body, call.id)
+    return framed(call.kind, header, call.body, call.id, call.version)

@@ -23,6 +23,7 @@ pub struct FixedHeader {
     pub total: usize,
     pub header_size: usize,
     pub id: u32,
+    pub version: u8,
 }
 
 impl FixedHeader {
@@ -48,11 +49,8 @@ impl FixedHeader {
         if header_size > if kind == Kind::Unary { total - SIZE } else { 0 } {
             return Err(7);
         }
-        if h[14] != 0 || h[15] != 0 {
-            return Err(8);
-        }
         let id = u32::from_be_bytes([h[10], h[11], h[12], h[13]]);
-        Ok(FixedHeader { kind, total, header_size, id })
+        Ok(FixedHeader { kind, total, header_size, id, version: h[14] })
     }
 }
 

@@ -61,6 +61,7 @@ pub struct Response {
 #[derive(Clone, Copy, Default, Debug, PartialEq, Eq)]
 pub struct Record<M> {
     pub id: u32,
+    pub header_version: u8,
     pub row_count: usize,
     pub message: M,
 }

@@ -8,5 +8,5 @@ pub mod queue;
 pub mod reader;
 pub mod writer;
 
-/// An error code: a refusal number of document 01.
+/// An error code: a refusal number of documents 01 and 02.
 pub type Error = u32;

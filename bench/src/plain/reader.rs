@@ -38,7 +38,7 @@ fn read_parts<M: Message>(fixed: &FixedHeader, frame: &[u8], rows: &mut [u32]) -
     let header = Span::new(SIZE, fixed.header_size);
     let body_start = SIZE + fixed.header_size;
     let body = Span::new(body_start, frame.len() - body_start);
-    let mut record = Record { id: fixed.id, row_count: 0, message: M::default() };
+    let mut record = Record { id: fixed.id, header_version: fixed.version, row_count: 0, message: M::default() };
     let mut entries = 0;
     let mut fields = Fields::new(frame, header);
     while let Some((number, value)) = fields.next_field()? {

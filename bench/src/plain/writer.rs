@@ -29,7 +29,7 @@ pub fn write<M: Message>(
         return Err(19);
     }
     let frame = out.get_mut(..total).ok_or(27u32)?;
-    frame[..SIZE].copy_from_slice(&fixed_header(total, length.0, record.id));
+    frame[..SIZE].copy_from_slice(&fixed_header(total, length.0, record.id, record.header_version));
     let mut writer = Writer { source, out: frame, at: SIZE };
     record.message.fields(&mut writer, rows);
     writer.put(body);
@@ -64,12 +64,13 @@ fn value(row: &[u32; 4]) -> Span {
 }
 
 #[inline]
-fn fixed_header(total: usize, header_size: usize, id: u32) -> [u8; SIZE] {
+fn fixed_header(total: usize, header_size: usize, id: u32, version: u8) -> [u8; SIZE] {
     let mut bytes = [0; SIZE];
     bytes[..2].copy_from_slice(&[0x09, 0x30]);
     bytes[4..8].copy_from_slice(&(total as u32).to_be_bytes());
     bytes[8..10].copy_from_slice(&(header_size as u16).to_be_bytes());
     bytes[10..14].copy_from_slice(&id.to_be_bytes());
+    bytes[14] = version;
     bytes
 }
 

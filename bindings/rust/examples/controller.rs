@@ -1,4 +1,4 @@
-//! A small controller. A client's stream arrives in pieces of odd sizes; the frames are cut from it, the requests are read, and
+//! A small controller. A gateway's stream arrives in pieces of odd sizes; the frames are cut from it, the requests are read, and
 //! a job is queued for each. Then the jobs are taken, the one that is due first before the others, and each is answered with a
 //! response frame. examples/controller.c of the repository does the same and prints the same.
 //!
@@ -12,7 +12,10 @@ use bekurapi::{
 /// The number of the connection that the stream comes on.
 const CONNECTION: u32 = 1;
 
-/// A request of the client.
+/// The protocol version that the gateway names in its fixed headers. Every version is read.
+const VERSION: u8 = 1;
+
+/// A request of the gateway.
 struct Order {
     id: u32,
     /// In ms; 0 is no deadline.
@@ -34,6 +37,7 @@ const ORDERS: [Order; 4] = [
 impl Order {
     fn frame(&self) -> Result<Vec<u8>, Error> {
         let request = Request {
+            header_version: VERSION,
             request_id: self.id,
             timeout: self.timeout,
             func: self.func.as_bytes(),
@@ -46,7 +50,8 @@ impl Order {
 
 /// A Feedback frame, which is no request, then the orders, then the beginning of a frame that never gets whole.
 fn stream() -> Result<Vec<u8>, Error> {
-    let mut stream = to_vec(5, &Record::Feedback(Feedback { window_size_increment: 300 }), b"")?;
+    let feedback = Feedback { header_version: VERSION, window_size_increment: 300 };
+    let mut stream = to_vec(5, &Record::Feedback(feedback), b"")?;
     for order in &ORDERS {
         stream.extend(order.frame()?);
     }
@@ -59,7 +64,8 @@ fn text(bytes: &[u8]) -> std::borrow::Cow<'_, str> {
 }
 
 fn print_request(message: &Message, request: &Request) {
-    print!("request {}, timeout {}, func {}", message.id, request.timeout, text(request.func));
+    print!("request {}, version {}, ", message.id, request.header_version);
+    print!("timeout {}, func {}", request.timeout, text(request.func));
     for (key, value) in &request.trans_info {
         print!(", {} = {}", text(key), text(value));
     }

@@ -11,7 +11,7 @@ use bekurapi_sys as ffi;
 /// ```
 /// use bekurapi::{to_vec, Deframer, End, Feedback, Record};
 ///
-/// let feedback = Record::Feedback(Feedback { window_size_increment: 300 });
+/// let feedback = Record::Feedback(Feedback { window_size_increment: 300, ..Feedback::default() });
 /// let mut stream = to_vec(5, &feedback, b"").unwrap();
 /// stream.push(0x09);
 ///
@@ -82,10 +82,10 @@ impl Deframer {
     /// [`Error::Magic`] on, and they are the stream's end: each later call gives the same error and takes nothing.
     ///
     /// ```
-    /// use bekurapi::{to_vec, Deframer, Record};
+    /// use bekurapi::{to_vec, Data, Deframer, Record};
     ///
-    /// let one = to_vec(7, &Record::Data, b"one").unwrap();
-    /// let two = to_vec(7, &Record::Data, b"two").unwrap();
+    /// let one = to_vec(7, &Record::Data(Data::default()), b"one").unwrap();
+    /// let two = to_vec(7, &Record::Data(Data::default()), b"two").unwrap();
     /// let piece = [&one[..], &two[..]].concat();
     ///
     /// let mut deframer = Deframer::new();
@@ -193,5 +193,62 @@ impl Default for Deframer {
 impl fmt::Debug for Deframer {
     fn fmt(&self, f: &mut fmt::Formatter<'_>) -> fmt::Result {
         f.debug_struct("Deframer").field("held", &self.held).field("error", &self.error).finish_non_exhaustive()
+    }
+}
+
+#[cfg(test)]
+mod tests {
+    use super::*;
+
+    /// The first 16 bytes of a Data frame of 24, of protocol version 1.
+    const HEADER: [u8; 16] = [0x09, 0x30, 1, 2, 0, 0, 0, 24, 0, 0, 0, 0, 0, 7, 1, 0];
+
+    /// A deframer in a state that no call may have left, over a buffer that begins with these bytes.
+    fn standing(held: usize, error: u32, start: &[u8; 16]) -> Deframer {
+        let mut deframer = Deframer { held, error, ..Deframer::new() };
+        deframer.buffer[..16].copy_from_slice(start);
+        deframer
+    }
+
+    /// It is refused, and stays as it is: the state as given, nothing taken, no byte of the buffer changed.
+    fn is_not_known(mut deframer: Deframer) {
+        let before = deframer.clone();
+        let unknown = Progress { taken: 0, frame: Err(Error::UnknownState) };
+        for piece in [&[0x09; 40][..], &[]] {
+            assert_eq!(deframer.finish(), Err(Error::UnknownState));
+            assert_eq!(deframer.push(piece), unknown);
+            assert_eq!((deframer.held, deframer.error), (before.held, before.error));
+            assert!(deframer.buffer == before.buffer);
+        }
+    }
+
+    /// 8 was the refusal of bytes 15 and 16: whatever they are, no state holds it.
+    #[test]
+    fn a_state_with_a_retired_number_is_not_known() {
+        for error in Error::RETIRED {
+            for (place, value) in [(14, 0), (14, 1), (14, 0xff), (15, 1), (15, 0xff), (0, 0x30)] {
+                let mut header = HEADER;
+                header[place] = value;
+                for held in [0, 15, 16, 17, 20] {
+                    is_not_known(standing(held, error, &header));
+                }
+            }
+        }
+    }
+
+    /// Inside a frame of any version, and with any last byte, the deframer goes on.
+    #[test]
+    fn a_state_inside_a_frame_of_any_version_is_known() {
+        for place in [14, 15] {
+            for value in 0..=255 {
+                let mut header = HEADER;
+                header[place] = value;
+                let mut deframer = standing(20, 0, &header);
+                assert_eq!(deframer.finish(), Ok(End::Short(20)));
+                let Progress { taken, frame } = deframer.push(&[0x77; 9]);
+                assert_eq!((taken, frame.unwrap().unwrap().len()), (4, 24));
+                assert_eq!(deframer.finish(), Ok(End::Clean));
+            }
+        }
     }
 }

@@ -32,8 +32,6 @@ pub enum Error {
     Total = 6,
     /// Header: header size. Bytes 9-10 are more than the total less 16 (unary), or not 0 (stream).
     HeaderSize = 7,
-    /// Header: reserved. Bytes 15-16 are not both 0.
-    Reserved = 8,
     /// Reader: the length isn't the total, or it is the wrong kind of frame. Header check: there are not 16 bytes.
     LengthOrKind = 9,
     /// Reader: a varint is bad or cut off.
@@ -80,7 +78,7 @@ impl Error {
     ///
     /// assert!(Error::ALL.iter().all(|&error| Error::from_number(error.number()) == Some(error)));
     /// ```
-    pub const ALL: [Error; 26] = [
+    pub const ALL: [Error; 25] = [
         Error::BufferTooSmall,
         Error::UnknownState,
         Error::Magic,
@@ -88,7 +86,6 @@ impl Error {
         Error::StreamType,
         Error::Total,
         Error::HeaderSize,
-        Error::Reserved,
         Error::LengthOrKind,
         Error::Varint,
         Error::Tag,
@@ -109,14 +106,15 @@ impl Error {
         Error::OutputTooShort,
     ];
 
-    /// Numbers that once were an error's and are never used again. 20 was a header message over 65,535 bytes.
+    /// Numbers that once were an error's and are never used again. 8 was a fixed header whose bytes 15-16 are not both 0, 20 a
+    /// header message over 65,535 bytes.
     ///
     /// ```
     /// use bekurapi::Error;
     ///
     /// assert!(Error::RETIRED.iter().all(|&number| Error::from_number(number).is_none()));
     /// ```
-    pub const RETIRED: [u32; 1] = [20];
+    pub const RETIRED: [u32; 2] = [8, 20];
 
     /// The number of the error, as in docs/PROTOCOL.md.
     ///
@@ -153,7 +151,6 @@ impl Error {
             Error::StreamType => "stream type",
             Error::Total => "total",
             Error::HeaderSize => "header size",
-            Error::Reserved => "reserved",
             Error::LengthOrKind => "length isn't the total (judge: not 16); or the wrong kind of frame",
             Error::Varint => "varint bad or cut off",
             Error::Tag => "tag bad; group end stray or of another number",
@@ -223,7 +220,13 @@ mod tests {
 
     #[test]
     #[should_panic(expected = "no error has this number")]
-    fn retired_number() {
-        let _ = checked(Error::RETIRED[0]);
+    fn retired_8() {
+        let _ = checked(8);
+    }
+
+    #[test]
+    #[should_panic(expected = "no error has this number")]
+    fn retired_20() {
+        let _ = checked(20);
     }
 }

@@ -7,26 +7,30 @@ use bekurapi_sys as ffi;
 /// How many bytes a fixed header has.
 ///
 /// ```
-/// let frame = bekurapi::to_vec(7, &bekurapi::Record::Data, b"camera picture").unwrap();
-/// assert!(bekurapi::header_check(&frame[..bekurapi::HEADER_SIZE]).is_ok());
+/// use bekurapi::{header_check, to_vec, Data, Record, HEADER_SIZE};
+///
+/// let frame = to_vec(7, &Record::Data(Data::default()), b"camera picture").unwrap();
+/// assert!(header_check(&frame[..HEADER_SIZE]).is_ok());
 /// ```
 pub const HEADER_SIZE: usize = 16;
 
 /// How many bytes a frame has at most, its fixed header included.
 ///
 /// ```
-/// use bekurapi::{to_vec, Error, Record, HEADER_SIZE, MAX_FRAME};
+/// use bekurapi::{to_vec, Data, Error, Record, HEADER_SIZE, MAX_FRAME};
 ///
+/// let data = Record::Data(Data::default());
 /// let picture = vec![0; MAX_FRAME - HEADER_SIZE];
-/// assert_eq!(to_vec(7, &Record::Data, &picture).unwrap().len(), MAX_FRAME);
-/// assert_eq!(to_vec(7, &Record::Data, &vec![0; picture.len() + 1]), Err(Error::FrameSize));
+/// assert_eq!(to_vec(7, &data, &picture).unwrap().len(), MAX_FRAME);
+/// assert_eq!(to_vec(7, &data, &vec![0; picture.len() + 1]), Err(Error::FrameSize));
 /// ```
 pub const MAX_FRAME: usize = 65_536;
 
 /// Checks a fixed header: exactly 16 bytes that begin a frame. What follows them is not looked at.
 ///
 /// The errors are [`Error::LengthOrKind`] where there are not 16 bytes, and else the first of [`Error::Magic`],
-/// [`Error::DataType`], [`Error::StreamType`], [`Error::Total`], [`Error::HeaderSize`] and [`Error::Reserved`] that holds.
+/// [`Error::DataType`], [`Error::StreamType`], [`Error::Total`] and [`Error::HeaderSize`] that holds. Every protocol version,
+/// byte 15, is good, and byte 16 is reserved and not looked at.
 ///
 /// ```
 /// use bekurapi::{header_check, Error};
@@ -115,8 +119,8 @@ impl fmt::Display for FrameType {
 /// ```
 /// use bekurapi::{parse_header, FixedHeader, FrameType};
 ///
-/// let header = parse_header(b"\x09\x30\x01\x03\0\0\0\x13\0\0\0\0\0\x05\0\0").unwrap();
-/// assert_eq!(header, FixedHeader { frame_type: FrameType::Feedback, total: 19, header_size: 0, id: 5 });
+/// let header = parse_header(b"\x09\x30\x01\x03\0\0\0\x13\0\0\0\0\0\x05\x01\0").unwrap();
+/// assert_eq!(header, FixedHeader { frame_type: FrameType::Feedback, total: 19, header_size: 0, id: 5, version: 1 });
 /// ```
 #[derive(Clone, Copy, Debug, PartialEq, Eq, Hash)]
 pub struct FixedHeader {
@@ -128,6 +132,8 @@ pub struct FixedHeader {
     pub header_size: usize,
     /// The request id or stream id: the one to answer with.
     pub id: u32,
+    /// The protocol version, byte 15.
+    pub version: u8,
 }
 
 /// Reads a fixed header: exactly 16 bytes that begin a frame. It says which kind to read a stream frame as.
@@ -137,20 +143,30 @@ pub struct FixedHeader {
 /// ```
 /// use bekurapi::{parse_header, read, to_vec, Feedback, Kind, Record, HEADER_SIZE};
 ///
-/// let frame = to_vec(5, &Record::Feedback(Feedback { window_size_increment: 300 }), b"")?;
+/// let feedback = Record::Feedback(Feedback { header_version: 1, window_size_increment: 300 });
+/// let frame = to_vec(5, &feedback, b"")?;
 /// let header = parse_header(&frame[..HEADER_SIZE])?;
-/// assert_eq!(header.id, 5);
+/// assert_eq!((header.id, header.version), (5, 1));
 /// let kind = header.frame_type.kind().unwrap_or(Kind::Request); // a client of ours sends no responses
-/// assert_eq!(read(kind, &frame)?.record, Record::Feedback(Feedback { window_size_increment: 300 }));
+/// assert_eq!(read(kind, &frame)?.record, feedback);
 /// # Ok::<(), bekurapi::Error>(())
 /// ```
 pub fn parse_header(bytes: &[u8]) -> Result<FixedHeader, Error> {
-    let (mut frame_type, mut total, mut header_size, mut id) = (0, 0, 0, 0);
+    let (mut frame_type, mut total, mut header_size, mut id, mut version) = (0, 0, 0, 0, 0);
     // SAFETY: the pointer and the length are those of a slice, which the function only reads; the numbers are locals that
     // only it writes.
     let code = unsafe {
-        ffi::trpc_header_parse(bytes.as_ptr(), bytes.len(), &mut frame_type, &mut total, &mut header_size, &mut id)
+        ffi::trpc_header_parse(
+            bytes.as_ptr(),
+            bytes.len(),
+            &mut frame_type,
+            &mut total,
+            &mut header_size,
+            &mut id,
+            &mut version,
+        )
     };
     checked(code)?;
-    Ok(FixedHeader { frame_type: FrameType::from_number(frame_type), total, header_size, id })
+    // The version is a byte's number.
+    Ok(FixedHeader { frame_type: FrameType::from_number(frame_type), total, header_size, id, version: version as u8 })
 }

@@ -54,6 +54,6 @@ pub use error::Error;
 pub use header::{header_check, parse_header, FixedHeader, FrameType, HEADER_SIZE, MAX_FRAME};
 pub use queue::{Job, Queue, CAPACITY, LATEST_ARRIVAL};
 pub use reader::{read, Message};
-pub use record::{Close, Feedback, Init, Kind, Record, Request, RequestMeta, Response, ResponseMeta};
+pub use record::{Close, Data, Feedback, Init, Kind, Record, Request, RequestMeta, Response, ResponseMeta};
 pub use trans_info::TransInfo;
 pub use writer::{to_vec, write};

@@ -1,10 +1,10 @@
-//! A record as the C interface has it: 24 numbers, and four numbers for each pair of its map.
+//! A record as the C interface has it: 25 numbers, and four numbers for each pair of its map.
 
-use crate::record::{Close, Feedback, Init, Kind, Record, Request, RequestMeta, Response, ResponseMeta};
+use crate::record::{Close, Data, Feedback, Init, Kind, Record, Request, RequestMeta, Response, ResponseMeta};
 use crate::trans_info::TransInfo;
 
 /// How many numbers a record has, as the library's readers and writers take it.
-pub const RECORD_NUMBERS: usize = 24;
+pub const RECORD_NUMBERS: usize = 25;
 
 /// How many row numbers a reader is lent, four for each of up to 64 pairs.
 pub const ROW_NUMBERS: usize = 256;
@@ -16,6 +16,7 @@ const HEADER: usize = 2;
 const BODY: usize = 4;
 const ATTACHMENT: usize = 6;
 const FIELDS: usize = 8;
+const HEADER_VERSION: usize = 24;
 
 /// What the reader left of a frame; the fields are read one after the other.
 pub struct Numbers<'a> {
@@ -51,14 +52,15 @@ impl<'a> Numbers<'a> {
             Kind::Request => Record::Request(self.request()),
             Kind::Response => Record::Response(self.response()),
             Kind::Init => Record::Init(self.init()),
-            Kind::Data => Record::Data,
-            Kind::Feedback => Record::Feedback(Feedback { window_size_increment: self.number() }),
+            Kind::Data => Record::Data(Data { header_version: self.header_version() }),
+            Kind::Feedback => Record::Feedback(self.feedback()),
             Kind::Close => Record::Close(self.close()),
         }
     }
 
     fn request(&mut self) -> Request<'a> {
         Request {
+            header_version: self.header_version(),
             version: self.number(),
             call_type: self.number(),
             request_id: self.number(),
@@ -76,6 +78,7 @@ impl<'a> Numbers<'a> {
 
     fn response(&mut self) -> Response<'a> {
         Response {
+            header_version: self.header_version(),
             version: self.number(),
             call_type: self.number(),
             request_id: self.number(),
@@ -96,6 +99,7 @@ impl<'a> Numbers<'a> {
         let answers = self.present();
         let response_meta = ResponseMeta { ret: self.signed(), error_msg: self.bytes() };
         Init {
+            header_version: self.header_version(),
             request_meta: asks.then_some(request_meta),
             response_meta: answers.then_some(response_meta),
             init_window_size: self.number(),
@@ -114,8 +118,13 @@ impl<'a> Numbers<'a> {
         }
     }
 
+    fn feedback(&mut self) -> Feedback {
+        Feedback { header_version: self.header_version(), window_size_increment: self.number() }
+    }
+
     fn close(&mut self) -> Close<'a> {
         Close {
+            header_version: self.header_version(),
             close_type: self.signed(),
             ret: self.signed(),
             msg: self.bytes(),
@@ -123,6 +132,11 @@ impl<'a> Numbers<'a> {
             func_ret: self.signed(),
             trans_info: self.trans_info(),
         }
+    }
+
+    /// The low byte of its number; the others are 0.
+    fn header_version(&self) -> u8 {
+        self.record[HEADER_VERSION] as u8
     }
 
     fn number(&mut self) -> u32 {
@@ -171,6 +185,7 @@ impl<'a> Source<'a> {
         let mut source =
             Source { record: [0; RECORD_NUMBERS], rows: Vec::new(), parts: Vec::new(), len: 0, next: FIELDS };
         source.record[ID] = id;
+        source.record[HEADER_VERSION] = record.header_version().into();
         source.put(record);
         source
     }
@@ -190,7 +205,7 @@ impl<'a> Source<'a> {
             Record::Request(request) => self.put_request(request),
             Record::Response(response) => self.put_response(response),
             Record::Init(init) => self.put_init(init),
-            Record::Data => {}
+            Record::Data(_) => {}
             Record::Feedback(feedback) => self.put_number(feedback.window_size_increment),
             Record::Close(close) => self.put_close(close),
         }

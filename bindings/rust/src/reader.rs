@@ -21,7 +21,7 @@ use bekurapi_sys as ffi;
 pub struct Message<'a> {
     /// The request id or stream id of the fixed header: the one to answer with.
     pub id: u32,
-    /// The fields, by the kind that was asked for.
+    /// The protocol version and the fields, by the kind that was asked for.
     pub record: Record<'a>,
     /// The bytes of the header message; of an Init, Feedback or Close frame, its message. Empty in a Data frame.
     pub header: &'a [u8],
@@ -31,7 +31,7 @@ pub struct Message<'a> {
     pub attachment: &'a [u8],
 }
 
-/// Reads a whole frame as a kind.
+/// Reads a whole frame as a kind. Every protocol version is read; the fixed header's last byte is not looked at.
 ///
 /// The errors, in this order: [`Error::LengthOrKind`] where there are fewer than 16 bytes; those of a fixed header, from
 /// [`Error::Magic`] on; [`Error::LengthOrKind`] again, where the length isn't the total or the frame is of another kind; then by
@@ -44,7 +44,7 @@ pub struct Message<'a> {
 /// let mut frame = *b"\x09\x30\x01\x03\0\0\0\x13\0\0\0\0\0\x05\0\0\x08\xac\x02";
 /// let message = read(Kind::Feedback, &frame)?;
 /// assert_eq!(message.id, 5);
-/// assert_eq!(message.record, Record::Feedback(Feedback { window_size_increment: 300 }));
+/// assert_eq!(message.record, Record::Feedback(Feedback { header_version: 0, window_size_increment: 300 }));
 ///
 /// frame[18] = 0x82; // the varint goes on past the end
 /// assert_eq!(read(Kind::Feedback, &frame), Err(Error::Varint));
@@ -54,7 +54,7 @@ pub fn read(kind: Kind, frame: &[u8]) -> Result<Message<'_>, Error> {
     let mut rows = [0; ROW_NUMBERS];
     let mut record = [0; RECORD_NUMBERS];
     let read = reader(kind);
-    // SAFETY: each pointer with a length is a slice's or an array's, and a record has 24 numbers. The frame is only read; the
+    // SAFETY: each pointer with a length is a slice's or an array's, and a record has 25 numbers. The frame is only read; the
     // arrays are locals that only the function writes.
     let code = unsafe { read(frame.as_ptr(), frame.len(), rows.as_mut_ptr(), rows.len(), &mut record) };
     checked(code)?;

@@ -4,9 +4,9 @@ use crate::trans_info::TransInfo;
 /// the kind that is expected.
 ///
 /// ```
-/// use bekurapi::{read, to_vec, Error, Kind, Record};
+/// use bekurapi::{read, to_vec, Data, Error, Kind, Record};
 ///
-/// let frame = to_vec(7, &Record::Data, b"camera picture").unwrap();
+/// let frame = to_vec(7, &Record::Data(Data::default()), b"camera picture").unwrap();
 /// assert!(read(Kind::Data, &frame).is_ok());
 /// assert_eq!(read(Kind::Feedback, &frame), Err(Error::LengthOrKind));
 /// ```
@@ -31,7 +31,7 @@ pub enum Kind {
 /// ```
 /// use bekurapi::{Feedback, Kind, Record};
 ///
-/// let record = Record::Feedback(Feedback { window_size_increment: 300 });
+/// let record = Record::Feedback(Feedback { window_size_increment: 300, ..Feedback::default() });
 /// assert_eq!(record.kind(), Kind::Feedback);
 /// ```
 #[derive(Clone, Debug, PartialEq, Eq)]
@@ -43,7 +43,7 @@ pub enum Record<'a> {
     /// The message of an Init frame.
     Init(Init<'a>),
     /// A Data frame, which has only a body.
-    Data,
+    Data(Data),
     /// The message of a Feedback frame.
     Feedback(Feedback),
     /// The message of a Close frame.
@@ -63,9 +63,30 @@ impl Record<'_> {
             Record::Request(_) => Kind::Request,
             Record::Response(_) => Kind::Response,
             Record::Init(_) => Kind::Init,
-            Record::Data => Kind::Data,
+            Record::Data(_) => Kind::Data,
             Record::Feedback(_) => Kind::Feedback,
             Record::Close(_) => Kind::Close,
+        }
+    }
+
+    /// The protocol version of the frame, byte 15 of its fixed header: every kind has it.
+    ///
+    /// ```
+    /// use bekurapi::{read, to_vec, Data, Kind, Record};
+    ///
+    /// let frame = to_vec(7, &Record::Data(Data { header_version: 2 }), b"camera picture")?;
+    /// assert_eq!(frame[14..16], [2, 0]);
+    /// assert_eq!(read(Kind::Data, &frame)?.record.header_version(), 2);
+    /// # Ok::<(), bekurapi::Error>(())
+    /// ```
+    pub fn header_version(&self) -> u8 {
+        match self {
+            Record::Request(request) => request.header_version,
+            Record::Response(response) => response.header_version,
+            Record::Init(init) => init.header_version,
+            Record::Data(data) => data.header_version,
+            Record::Feedback(feedback) => feedback.header_version,
+            Record::Close(close) => close.header_version,
         }
     }
 }
@@ -83,6 +104,8 @@ impl Record<'_> {
 #[derive(Clone, Debug, Default, PartialEq, Eq)]
 #[allow(missing_docs, reason = "the members have the protocol's own names")]
 pub struct Request<'a> {
+    /// The protocol version: byte 15 of the fixed header. The message's own `version` is another thing.
+    pub header_version: u8,
     pub version: u32,
     pub call_type: u32,
     /// The message's own request id. [`Message::id`](crate::Message::id) is the one to answer with.
@@ -113,6 +136,8 @@ pub struct Request<'a> {
 #[derive(Clone, Debug, Default, PartialEq, Eq)]
 #[allow(missing_docs, reason = "the members have the protocol's own names")]
 pub struct Response<'a> {
+    /// The protocol version: byte 15 of the fixed header. The message's own `version` is another thing.
+    pub header_version: u8,
     pub version: u32,
     pub call_type: u32,
     /// The message's own request id. [`Message::id`](crate::Message::id) is the one that was answered.
@@ -142,6 +167,8 @@ pub struct Response<'a> {
 #[derive(Clone, Debug, Default, PartialEq, Eq)]
 #[allow(missing_docs, reason = "the members have the protocol's own names")]
 pub struct Init<'a> {
+    /// The protocol version: byte 15 of the fixed header.
+    pub header_version: u8,
     pub request_meta: Option<RequestMeta<'a>>,
     pub response_meta: Option<ResponseMeta<'a>>,
     pub init_window_size: u32,
@@ -184,18 +211,36 @@ pub struct ResponseMeta<'a> {
     pub error_msg: &'a [u8],
 }
 
+/// What is said of a Data frame beside its id and its body: it has no message.
+///
+/// ```
+/// use bekurapi::{read, to_vec, Data, Kind, Record};
+///
+/// let frame = to_vec(9, &Record::Data(Data::default()), b"camera picture")?;
+/// assert_eq!(read(Kind::Data, &frame)?.record, Record::Data(Data { header_version: 0 }));
+/// # Ok::<(), bekurapi::Error>(())
+/// ```
+#[derive(Clone, Copy, Debug, Default, PartialEq, Eq)]
+pub struct Data {
+    /// The protocol version: byte 15 of the fixed header.
+    pub header_version: u8,
+}
+
 /// The message of a Feedback frame.
 ///
 /// ```
 /// use bekurapi::{read, to_vec, Feedback, Kind, Record};
 ///
-/// let frame = to_vec(5, &Record::Feedback(Feedback { window_size_increment: 300 }), b"")?;
+/// let feedback = Feedback { window_size_increment: 300, ..Feedback::default() };
+/// let frame = to_vec(5, &Record::Feedback(feedback), b"")?;
 /// assert_eq!(read(Kind::Feedback, &frame)?.header, [0x08, 0xac, 0x02]);
 /// # Ok::<(), bekurapi::Error>(())
 /// ```
 #[derive(Clone, Copy, Debug, Default, PartialEq, Eq)]
 #[allow(missing_docs, reason = "the members have the protocol's own names")]
 pub struct Feedback {
+    /// The protocol version: byte 15 of the fixed header.
+    pub header_version: u8,
     pub window_size_increment: u32,
 }
 
@@ -212,6 +257,8 @@ pub struct Feedback {
 #[derive(Clone, Debug, Default, PartialEq, Eq)]
 #[allow(missing_docs, reason = "the members have the protocol's own names")]
 pub struct Close<'a> {
+    /// The protocol version: byte 15 of the fixed header.
+    pub header_version: u8,
     pub close_type: i32,
     pub ret: i32,
     pub msg: &'a [u8],

@@ -8,7 +8,7 @@ use bekurapi_sys as ffi;
 const MOST_ROWS: usize = 64;
 
 /// Writes the frame of a record with its id and body to the start of `out`, and returns the frame's size. Bytes of `out` past
-/// the frame stay as they were, and after an error all of them do.
+/// the frame stay as they were, and after an error all of them do. Byte 15 is the record's protocol version, byte 16 is 0.
 ///
 /// The errors, in this order: [`Error::Rows`] where the map has over 64 pairs or equal keys; [`Error::Attachment`] where it is
 /// larger than the body, or where Init, Feedback or Close have a body; [`Error::FrameSize`]; [`Error::OutputTooShort`].
@@ -19,10 +19,10 @@ const MOST_ROWS: usize = 64;
 /// ```
 /// use bekurapi::{write, Error, Feedback, Record};
 ///
-/// let feedback = Record::Feedback(Feedback { window_size_increment: 300 });
+/// let feedback = Record::Feedback(Feedback { header_version: 1, window_size_increment: 300 });
 /// let mut out = [0xee; 20];
 /// assert_eq!(write(5, &feedback, b"", &mut out), Ok(19));
-/// assert_eq!(out, *b"\x09\x30\x01\x03\0\0\0\x13\0\0\0\0\0\x05\0\0\x08\xac\x02\xee");
+/// assert_eq!(out, *b"\x09\x30\x01\x03\0\0\0\x13\0\0\0\0\0\x05\x01\0\x08\xac\x02\xee");
 ///
 /// assert_eq!(write(5, &feedback, b"", &mut out[..18]), Err(Error::OutputTooShort));
 /// ```
@@ -67,7 +67,7 @@ fn write_source(record: &Record<'_>, source: &Source, body: &[u8], out: &mut [u8
     let bytes = source.bytes();
     let mut size = 0;
     let write = writer(record.kind());
-    // SAFETY: each pointer with a length is a slice's, and a record has 24 numbers. All but the output are only read; it is
+    // SAFETY: each pointer with a length is a slice's, and a record has 25 numbers. All but the output are only read; it is
     // borrowed exclusively and so overlaps none of them. `size` is a local that only the function writes.
     let code = unsafe {
         write(
@@ -106,7 +106,7 @@ fn error_of_too_long(record: &Record<'_>, body: &[u8]) -> Error {
         Record::Request(request) => (Some(&request.trans_info), request.attachment_size, true),
         Record::Response(response) => (Some(&response.trans_info), response.attachment_size, true),
         Record::Init(init) => (init.request_meta.as_ref().map(|meta| &meta.trans_info), 0, false),
-        Record::Data => (None, 0, true),
+        Record::Data(_) => (None, 0, true),
         Record::Feedback(_) => (None, 0, false),
         Record::Close(close) => (Some(&close.trans_info), 0, false),
     };

@@ -1,8 +1,8 @@
 //! Writing and reading: each kind, the borders, and each error that the bindings let through.
 
 use bekurapi::{
-    read, to_vec, write, Close, Error, Feedback, Init, Kind, Record, Request, RequestMeta, Response, ResponseMeta,
-    TransInfo, MAX_FRAME,
+    read, to_vec, write, Close, Data, Error, Feedback, Init, Kind, Record, Request, RequestMeta, Response,
+    ResponseMeta, TransInfo, MAX_FRAME,
 };
 
 const KINDS: [Kind; 6] = [Kind::Request, Kind::Response, Kind::Init, Kind::Data, Kind::Feedback, Kind::Close];
@@ -12,6 +12,7 @@ fn full_records() -> Vec<Record<'static>> {
     let info = || TransInfo::from([("cell", "4"), ("", "key is empty"), ("value is empty", "")]);
     vec![
         Record::Request(Request {
+            header_version: 2,
             version: 1,
             call_type: u32::MAX,
             request_id: 3,
@@ -26,6 +27,7 @@ fn full_records() -> Vec<Record<'static>> {
             attachment_size: 4,
         }),
         Record::Response(Response {
+            header_version: 0x80,
             version: 1,
             call_type: 2,
             request_id: u32::MAX,
@@ -39,6 +41,7 @@ fn full_records() -> Vec<Record<'static>> {
             attachment_size: 12,
         }),
         Record::Init(Init {
+            header_version: 1,
             request_meta: Some(RequestMeta {
                 caller: b"vision",
                 callee: b"camera",
@@ -51,9 +54,10 @@ fn full_records() -> Vec<Record<'static>> {
             content_type: 4,
             content_encoding: 5,
         }),
-        Record::Data,
-        Record::Feedback(Feedback { window_size_increment: u32::MAX }),
+        Record::Data(Data { header_version: 0xff }),
+        Record::Feedback(Feedback { header_version: 9, window_size_increment: u32::MAX }),
         Record::Close(Close {
+            header_version: 0x7f,
             close_type: -1,
             ret: i32::MAX,
             msg: b"camera lost",
@@ -69,7 +73,7 @@ fn empty_records() -> Vec<Record<'static>> {
         Record::Request(Request::default()),
         Record::Response(Response::default()),
         Record::Init(Init::default()),
-        Record::Data,
+        Record::Data(Data::default()),
         Record::Feedback(Feedback::default()),
         Record::Close(Close::default()),
     ]
@@ -98,6 +102,51 @@ fn what_is_written_reads_as_it_was() {
         assert_eq!(message.record, record);
         assert_eq!(message.body, body);
         assert_eq!(frame.len(), 16 + message.header.len() + body.len());
+    }
+}
+
+/// The record with this protocol version.
+fn with_version(mut record: Record, version: u8) -> Record {
+    let place = match &mut record {
+        Record::Request(request) => &mut request.header_version,
+        Record::Response(response) => &mut response.header_version,
+        Record::Init(init) => &mut init.header_version,
+        Record::Data(data) => &mut data.header_version,
+        Record::Feedback(feedback) => &mut feedback.header_version,
+        Record::Close(close) => &mut close.header_version,
+    };
+    *place = version;
+    record
+}
+
+/// The version is byte 15, and nothing else of the frame changes with it; byte 16 is 0.
+#[test]
+fn every_version_of_every_kind() {
+    for record in [full_records(), empty_records()].concat() {
+        let body = body_of(&record);
+        let zero = to_vec(7, &with_version(record.clone(), 0), body).unwrap();
+        for version in 0..=255 {
+            let record = with_version(record.clone(), version);
+            assert_eq!(record.header_version(), version);
+            let frame = to_vec(7, &record, body).unwrap();
+            assert_eq!((&frame[..14], &frame[14..16], &frame[16..]), (&zero[..14], &[version, 0][..], &zero[16..]));
+            assert_eq!(read(record.kind(), &frame).unwrap().record, record);
+        }
+    }
+}
+
+/// A record has no place for byte 16: whatever it is, the frame reads the same, and it is written as 0.
+#[test]
+fn the_last_byte_of_the_header_is_not_kept() {
+    for record in full_records() {
+        let frame = to_vec(7, &record, body_of(&record)).unwrap();
+        for last in 0..=255 {
+            let mut other = frame.clone();
+            other[15] = last;
+            let message = read(record.kind(), &other).unwrap();
+            assert_eq!(message.record, record);
+            assert_eq!(to_vec(message.id, &message.record, message.body).unwrap(), frame);
+        }
     }
 }
 
@@ -359,6 +408,7 @@ fn fields_that_take_most_room() {
     let text = [b'x'; 127];
     let keys: Vec<Vec<u8>> = (0..64).map(|number| [vec![number], text.to_vec()].concat()).collect();
     let close = Close {
+        header_version: 0xff,
         close_type: -1,
         ret: -1,
         msg: &text,

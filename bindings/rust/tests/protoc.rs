@@ -4,7 +4,7 @@
 use std::fmt::Write;
 use std::path::Path;
 
-use bekurapi::{read, to_vec, Close, Error, Init, Kind, Message, Record, Request, Response, TransInfo};
+use bekurapi::{read, to_vec, Close, Error, Init, Kind, Message, Record, Request, Response, TransInfo, HEADER_SIZE};
 
 const KINDS: [Kind; 6] = [Kind::Request, Kind::Response, Kind::Init, Kind::Data, Kind::Feedback, Kind::Close];
 
@@ -105,6 +105,7 @@ impl Printer<'_> {
 
     fn request(&mut self, id: u32, request: &Request) {
         self.number("request", id);
+        self.number("header_version", request.header_version);
         self.number("version", request.version);
         self.number("call_type", request.call_type);
         self.number("request_id", request.request_id);
@@ -121,6 +122,7 @@ impl Printer<'_> {
 
     fn response(&mut self, id: u32, response: &Response) {
         self.number("response", id);
+        self.number("header_version", response.header_version);
         self.number("version", response.version);
         self.number("call_type", response.call_type);
         self.number("request_id", response.request_id);
@@ -136,6 +138,7 @@ impl Printer<'_> {
 
     fn init(&mut self, id: u32, init: &Init) {
         self.number("init", id);
+        self.number("header_version", init.header_version);
         let meta = init.request_meta.clone().unwrap_or_default();
         self.mark("request_meta", init.request_meta.is_some());
         self.bytes("request_meta.caller", meta.caller);
@@ -154,6 +157,7 @@ impl Printer<'_> {
 
     fn close(&mut self, id: u32, close: &Close) {
         self.number("close", id);
+        self.number("header_version", close.header_version);
         self.number("close_type", close.close_type);
         self.number("ret", close.ret);
         self.bytes("msg", close.msg);
@@ -167,12 +171,14 @@ impl Printer<'_> {
             Record::Request(request) => self.request(id, request),
             Record::Response(response) => self.response(id, response),
             Record::Init(init) => self.init(id, init),
-            Record::Data => {
+            Record::Data(data) => {
                 self.number("data", id);
+                self.number("header_version", data.header_version);
                 self.rows(&TransInfo::new());
             }
             Record::Feedback(feedback) => {
                 self.number("feedback", id);
+                self.number("header_version", feedback.header_version);
                 self.number("window_size_increment", feedback.window_size_increment);
                 self.rows(&TransInfo::new());
             }
@@ -213,4 +219,29 @@ fn frames_around_protoc_headers() {
         }
     }
     assert!(whole > 600);
+}
+
+/// Under other last two bytes of its fixed header a frame reads the same but for its version, and is refused the same. Bytes 15
+/// and 16 take each value; which two come together depends on the frame.
+#[test]
+fn frames_under_other_versions() {
+    for (number, case) in cases().iter().enumerate().filter(|(_, case)| case.frame.len() >= HEADER_SIZE) {
+        let mut frame = case.frame.clone();
+        let expected = read(case.kind, &case.frame);
+        for version in (number as u8 % 16..=255).step_by(16) {
+            frame[14] = version;
+            frame[15] = (number as u8).wrapping_mul(31) ^ version;
+            match (&expected, read(case.kind, &frame)) {
+                (Ok(expected), Ok(message)) => {
+                    assert_eq!(message.record.header_version(), version);
+                    let again = to_vec(message.id, &message.record, message.body).unwrap();
+                    assert_eq!(again[14..HEADER_SIZE], [version, 0]);
+                    let mut as_before = to_vec(expected.id, &expected.record, expected.body).unwrap();
+                    as_before[14] = version;
+                    assert!(again == as_before);
+                }
+                (expected, answer) => assert_eq!(answer.map(|_| ()), expected.clone().map(|_| ())),
+            }
+        }
+    }
 }

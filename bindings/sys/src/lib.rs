@@ -33,8 +33,9 @@ pub struct Queue {
 // As C lays them out, without a byte that is no member's.
 const _: () = assert!(size_of::<Job>() == 4 * 4 + 8 && size_of::<Queue>() == 64 * 24 + 8);
 
-/// The record of a kind: the 24 numbers of its struct, in their order.
-pub type Numbers = [u32; 24];
+/// The record of a kind: the 25 numbers of its struct, in their order. The last has `header_version` in its low byte; its
+/// other three bytes are 0 where it is read, and not looked at where it is written.
+pub type Numbers = [u32; 25];
 
 /// A reader: frame and length, rows and length, record.
 pub type Reader = unsafe extern "C" fn(*const u8, usize, *mut u32, usize, *mut Numbers) -> u32;
@@ -114,6 +115,7 @@ extern "C" {
         total: *mut usize,
         header_size: *mut usize,
         id: *mut u32,
+        header_version: *mut u32,
     ) -> u32;
 
     /// One call of the deframer.

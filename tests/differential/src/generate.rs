@@ -359,7 +359,15 @@ impl Generator<'_> {
             _ => {}
         }
         let id = self.random.number32();
-        frame(kind, id, &message, &body)
+        self.under_a_version(frame(kind, id, &message, &body))
+    }
+
+    /// With any last two bytes of its fixed header; a third keeps its zeros.
+    pub fn under_a_version(&mut self, mut frame: Vec<u8>) -> Vec<u8> {
+        if !self.random.one_in(3) {
+            frame[14..16].copy_from_slice(&self.random.last_two());
+        }
+        frame
     }
 }
 
@@ -377,9 +385,9 @@ impl Generator<'_> {
         message.splice(place..place, filling);
         let rest = vec![0x0B; total.saturating_sub(SIZE + message.len())];
         if matches!(kind, Kind::Request | Kind::Response | Kind::Data) {
-            return frame(kind, 7, &message, &rest);
+            return self.under_a_version(frame(kind, 7, &message, &rest));
         }
-        frame(kind, 7, &message, &[])
+        self.under_a_version(frame(kind, 7, &message, &[]))
     }
 }
 
@@ -392,7 +400,7 @@ fn map_number(kind: Kind) -> Option<u32> {
     }
 }
 
-/// A frame with these parts. Its total and header size are what they are, however large.
+/// A frame with these parts, of version 0. Its total and header size are what they are, however large.
 pub fn frame(kind: Kind, id: u32, message: &[u8], body: &[u8]) -> Vec<u8> {
     let mut frame = vec![0x09, 0x30, u8::from(!kind.is_unary()), kind.stream_type()];
     frame.extend(((16 + message.len() + body.len()) as u32).to_be_bytes());
@@ -401,6 +409,12 @@ pub fn frame(kind: Kind, id: u32, message: &[u8], body: &[u8]) -> Vec<u8> {
     frame.extend([0, 0]);
     frame.extend_from_slice(message);
     frame.extend_from_slice(body);
+    frame
+}
+
+/// With this version and this last byte of its fixed header.
+pub fn with_last_two(mut frame: Vec<u8>, version: u8, last: u8) -> Vec<u8> {
+    frame[14..16].copy_from_slice(&[version, last]);
     frame
 }
 

@@ -48,12 +48,20 @@ pub fn header_check(bytes: &[u8]) -> u32 {
 }
 
 pub fn header_parse(bytes: &[u8]) -> Parsed {
-    let (mut frame_type, mut id) = (NO_NUMBER, NO_NUMBER);
+    let (mut frame_type, mut id, mut version) = (NO_NUMBER, NO_NUMBER, NO_NUMBER);
     let (mut total, mut header_size) = (NO_ANSWER, NO_ANSWER);
     let error = unsafe {
-        c::trpc_header_parse(bytes.as_ptr(), bytes.len(), &mut frame_type, &mut total, &mut header_size, &mut id)
+        c::trpc_header_parse(
+            bytes.as_ptr(),
+            bytes.len(),
+            &mut frame_type,
+            &mut total,
+            &mut header_size,
+            &mut id,
+            &mut version,
+        )
     };
-    Parsed { error: given(&"trpc_header_parse", error), frame_type, total, header_size, id }
+    Parsed { error: given(&"trpc_header_parse", error), frame_type, total, header_size, id, version }
 }
 
 pub fn deframe(state: State, buffer: &mut [u8], piece: &[u8]) -> Deframed {

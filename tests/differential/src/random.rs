@@ -65,6 +65,19 @@ impl Random {
         }
     }
 
+    /// The last two bytes of a fixed header: the version and the reserved one, which are often different.
+    pub fn last_two(&mut self) -> [u8; 2] {
+        let any = self.byte();
+        [self.pick(&[0, 1, 2, 8, 0x7F, 0x80, 0xFF, any]), self.pick(&[0, 0, 0, 1, 8, 0xFF, any, any.wrapping_add(1)])]
+    }
+
+    /// The number of a record that has the version in its low byte; often there is something above it.
+    pub fn version(&mut self) -> u32 {
+        let [version, above] = self.last_two().map(u32::from);
+        let any = self.u32();
+        self.pick(&[version, version, version | above << 8, version | any << 8, 256, 511, u32::MAX - 1])
+    }
+
     pub fn number32(&mut self) -> u32 {
         self.number() as u32
     }

@@ -9,18 +9,19 @@
 
 use crate::reference::deframer::State;
 use crate::reference::header;
-use crate::reference::interface::{self, Numbers, Written};
+use crate::reference::interface::{self, Deframed, Finished, Numbers, Written, FIRST_FIELD, VERSION};
 use crate::reference::messages::Kind;
 use crate::reference::queue::{Job, Queue};
 use crate::reference::writer::header_message;
 use crate::reference::RETIRED;
 use std::slice::{from_raw_parts, from_raw_parts_mut};
+use std::sync::atomic::{AtomicU32, Ordering};
 use std::sync::OnceLock;
 
 pub static FAULT: OnceLock<String> = OnceLock::new();
 
 /// Each fault, and a family whose inputs show it.
-pub const FAULTS: [(&str, &str); 30] = [
+pub const FAULTS: [(&str, &str); 51] = [
     ("header-size-of-total", "header"),
     ("id-of-16-bits", "header"),
     ("taken-one-less", "every two cuts"),
@@ -51,6 +52,27 @@ pub const FAULTS: [(&str, &str); 30] = [
     ("retired-number-of-take", "queue calls"),
     ("retired-number-of-cancel", "queue calls"),
     ("retired-number-in-state", "streams"),
+    ("retired-number-of-a-version", "header"),
+    ("retired-number-of-a-last-byte", "last two bytes"),
+    ("retired-number-repeated", "standing versions"),
+    ("retired-number-at-the-end", "standing versions"),
+    ("state-of-8-goes-on", "standing versions"),
+    ("frame-of-a-version-not-known", "states"),
+    ("parsed-version-of-byte-16", "header"),
+    ("parsed-version-of-a-refusal", "last two bytes"),
+    ("version-of-byte-16", "messages"),
+    ("version-never-read", "last two bytes"),
+    ("version-of-seven-bits", "last two bytes"),
+    ("version-of-the-message", "messages"),
+    ("version-of-the-frame-before", "every two cuts"),
+    ("byte-15-of-the-frame-before", "every two cuts"),
+    ("version-of-a-refusal", "damaged frames"),
+    ("byte-16-beside-the-version", "messages"),
+    ("version-written-to-byte-16", "round trips"),
+    ("version-never-written", "written versions"),
+    ("version-written-is-the-message's", "written versions"),
+    ("version-above-255-as-255", "records"),
+    ("byte-16-written-as-read", "written again"),
 ];
 
 fn fault(name: &str) -> bool {
@@ -61,7 +83,7 @@ fn fault(name: &str) -> bool {
 /// What an entry returns of its error code: with its fault of this name, a retired number in place of any other.
 fn returned(code: u32, name: &str) -> u32 {
     if code != 0 && fault(name) {
-        RETIRED[0]
+        RETIRED[code as usize % RETIRED.len()]
     } else {
         code
     }
@@ -72,9 +94,16 @@ pub unsafe fn trpc_header_check(bytes: *const u8, len: usize) -> u32 {
     let code = interface::header_check(bytes);
     if fault("header-size-of-total") && code == 7 {
         let fixed = header::first(bytes);
-        if fixed.data_type == header::UNARY && fixed.header_size <= fixed.total && fixed.reserved == 0 {
+        if fixed.data_type == header::UNARY && fixed.header_size <= fixed.total {
             return 0;
         }
+    }
+    // The rule of document 01, or a half of it: bytes 15 and 16 are 0.
+    if code == 0
+        && (fault("retired-number-of-a-version") && bytes[14] != 0
+            || fault("retired-number-of-a-last-byte") && bytes[15] != 0)
+    {
+        return 8;
     }
     returned(code, "retired-number-of-check")
 }
@@ -86,13 +115,26 @@ pub unsafe fn trpc_header_parse(
     total: *mut usize,
     header_size: *mut usize,
     id: *mut u32,
+    version: *mut u32,
 ) -> u32 {
-    let answer = interface::header_parse(from_raw_parts(bytes, len));
+    let bytes = from_raw_parts(bytes, len);
+    let answer = interface::header_parse(bytes);
     *frame_type = answer.frame_type;
     *total = answer.total;
     *header_size = answer.header_size;
     *id = if fault("id-of-16-bits") { answer.id & 0xFFFF } else { answer.id };
+    *version = match answer.error {
+        0 if fault("parsed-version-of-byte-16") => bytes[15].into(),
+        6 if fault("parsed-version-of-a-refusal") => bytes[14].into(),
+        _ => answer.version,
+    };
     returned(answer.error, "retired-number-of-parse")
+}
+
+/// Whether the state is one that held 8 by document 01's rule: 16 bytes that are good but for the last two.
+fn held_8(state: State, buffer: &[u8]) -> bool {
+    let state_of_8 = buffer.len() >= header::LARGEST && state == State { held: header::SIZE, error: 8 };
+    state_of_8 && header::first(buffer).error() == 0 && buffer[14..header::SIZE] != [0, 0]
 }
 
 pub unsafe fn trpc_deframe(
@@ -107,7 +149,21 @@ pub unsafe fn trpc_deframe(
 ) -> u32 {
     let state = State { held: *held, error: *error };
     let buffer = from_raw_parts_mut(buffer, buffer_len);
-    let mut answer = interface::deframe(state, buffer, from_raw_parts(piece, piece_len));
+    let byte_15 = buffer.get(14).copied();
+    let piece = from_raw_parts(piece, piece_len);
+    let mut answer = interface::deframe(state, buffer, piece);
+    if fault("retired-number-repeated") && held_8(state, buffer) {
+        answer.error = 8;
+    }
+    if fault("state-of-8-goes-on") && held_8(state, buffer) {
+        answer = interface::deframe(State { error: 0, ..state }, buffer, piece);
+    }
+    if fault("frame-of-a-version-not-known") && state.held > header::SIZE && answer.error == 0 && byte_15 != Some(0) {
+        answer = Deframed { error: 2, next: state, taken: 0, size: 0 };
+    }
+    if fault("byte-15-of-the-frame-before") && state.held == 14 && answer.taken > 0 {
+        buffer[14] = byte_15.unwrap();
+    }
     if fault("taken-one-less") && state.held > 0 && answer.size > 20 {
         answer.taken -= 1;
     }
@@ -124,7 +180,7 @@ pub unsafe fn trpc_deframe(
         answer.taken = piece_len;
     }
     if fault("retired-number-in-state") && answer.error > 2 {
-        answer.next.error = RETIRED[0];
+        answer.next.error = RETIRED[answer.error as usize % RETIRED.len()];
     }
     *held = answer.next.held;
     *error = answer.next.error;
@@ -134,7 +190,11 @@ pub unsafe fn trpc_deframe(
 }
 
 pub unsafe fn trpc_finish(held: usize, error: u32, buffer: *const u8, buffer_len: usize, short_by: *mut usize) -> u32 {
-    let end = interface::finish(State { held, error }, from_raw_parts(buffer, buffer_len));
+    let (state, buffer) = (State { held, error }, from_raw_parts(buffer, buffer_len));
+    let mut end = interface::finish(state, buffer);
+    if fault("retired-number-at-the-end") && held_8(state, buffer) {
+        end = Finished { error: 8, short_by: 0 };
+    }
     *short_by = end.short_by;
     returned(end.error, "retired-number-of-finish")
 }
@@ -146,14 +206,48 @@ pub type Writer = unsafe fn(
     *const Numbers, *const u8, usize, *const u32, usize, *const u8, usize, *mut u8, usize, *mut usize,
 ) -> u32;
 
+/// The version of the frame that was read last.
+static READ_LAST: AtomicU32 = AtomicU32::new(0);
+
+/// Puts another number where the version is, by its fault.
+fn mistake_version(kind: Kind, frame: &[u8], code: u32, record: &mut Numbers) {
+    let version = &mut record[VERSION];
+    let before = READ_LAST.swap(*version, Ordering::Relaxed);
+    if code != 0 {
+        if fault("version-of-a-refusal") && code != 16 && frame.len() > 14 {
+            *version = frame[14].into();
+        }
+        return;
+    }
+    if fault("version-of-byte-16") {
+        *version = frame[15].into();
+    }
+    if fault("version-never-read") {
+        *version = 0;
+    }
+    if fault("version-of-seven-bits") {
+        *version &= 0x7F;
+    }
+    if fault("version-of-the-frame-before") {
+        *version = before;
+    }
+    if fault("byte-16-beside-the-version") {
+        *version |= u32::from(frame[15]) << 8;
+    }
+    if fault("version-of-the-message") && kind.is_unary() {
+        record[VERSION] = record[FIRST_FIELD];
+    }
+}
+
 fn read(kind: Kind, frame: &[u8], rows: &mut [u32], record: &mut Numbers) -> u32 {
     let last = rows.get(255).copied();
     let code = interface::read(kind, frame, rows, record);
+    mistake_version(kind, frame, code, record);
     if fault("timeout-of-seven-bits") && kind == Kind::Request {
         record[11] &= 0x7F;
     }
     if fault("close-read-as-feedback") && kind == Kind::Close && code == 0 {
-        record[9..].fill(0);
+        record[9..VERSION].fill(0);
     }
     if fault("last-number-kept") && code == 13 {
         rows[255] = last.unwrap();
@@ -171,8 +265,32 @@ fn two_keys(record: &Numbers, source: &[u8], rows: &[u32], apart: usize, is: imp
     (apart..keys.len()).any(|later| keys[..=later - apart].iter().any(|earlier| is(earlier, keys[later])))
 }
 
+/// Writes other last two bytes of the fixed header, by their fault.
+fn miswrite_version(kind: Kind, record: &Numbers, source: &[u8], out: &mut [u8]) {
+    let last_two = &mut out[14..header::SIZE];
+    if fault("version-written-to-byte-16") {
+        last_two.swap(0, 1);
+    }
+    if fault("version-never-written") {
+        last_two[0] = 0;
+    }
+    if fault("version-written-is-the-message's") && kind.is_unary() {
+        last_two[0] = record[FIRST_FIELD] as u8;
+    }
+    if fault("version-above-255-as-255") {
+        last_two[0] = record[VERSION].min(255) as u8;
+    }
+    // The source of a record that was read is its frame.
+    if fault("byte-16-written-as-read") && source.len() >= header::SIZE && source[..2] == [0x09, 0x30] {
+        last_two[1] = source[15];
+    }
+}
+
 fn write(kind: Kind, record: &Numbers, source: &[u8], rows: &[u32], body: &[u8], out: &mut [u8]) -> Written {
     let mut answer = interface::write(kind, record, source, rows, body, out);
+    if answer.size > 0 {
+        miswrite_version(kind, record, source, out);
+    }
     if fault("written-past-the-frame") && answer.size > 40 && answer.size < out.len() {
         out[answer.size] ^= 0xFF;
     }
@@ -197,7 +315,7 @@ fn write(kind: Kind, record: &Numbers, source: &[u8], rows: &[u32], body: &[u8],
     if fault("retired-number-of-a-long-message") && answer.error == 19 {
         let message = header_message(&interface::input(kind, record, source, rows, body));
         if message.len() > 65_535 && header::SIZE + message.len() + body.len() <= out.len() {
-            answer.error = RETIRED[0];
+            answer.error = 20;
         }
     }
     answer

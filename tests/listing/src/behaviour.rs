@@ -5,11 +5,13 @@ use std::fs::{read_to_string, File};
 use std::io::{BufRead, BufReader, Read, Write};
 use std::process::{Child, Command, Stdio};
 
+/// A frame whose version is its id.
 fn frame(id: u8, total: usize) -> Vec<u8> {
     let mut frame = vec![0; total];
     frame[..2].copy_from_slice(&[0x09, 0x30]);
     frame[4..8].copy_from_slice(&(total as u32).to_be_bytes());
     frame[13] = id;
+    frame[14] = id;
     frame
 }
 

@@ -1,4 +1,4 @@
-//! What the listing of a stream has to be, from document 01 only and on the whole stream at once.
+//! What the listing of a stream has to be, from documents 01 and 02 only and on the whole stream at once.
 
 const KINDS: [&str; 4] = ["init", "data", "feedback", "close"];
 
@@ -6,11 +6,11 @@ fn big_endian(bytes: &[u8]) -> u64 {
     bytes.iter().fold(0, |number, byte| number << 8 | u64::from(*byte))
 }
 
-/// Kind, id and total of 16 bytes, or the number of the first rule that they break.
+/// Kind, id and total of 16 bytes, or the number of the first rule that they break. The last two, the protocol version and the
+/// reserved byte, break none.
 fn header(h: &[u8]) -> Result<(&'static str, u64, usize), u32> {
     let (magic, data_type, stream_type) = (big_endian(&h[0..2]), h[2], usize::from(h[3]));
-    let (total, header_size, id, reserved) =
-        (big_endian(&h[4..8]), big_endian(&h[8..10]), big_endian(&h[10..14]), big_endian(&h[14..16]));
+    let (total, header_size, id) = (big_endian(&h[4..8]), big_endian(&h[8..10]), big_endian(&h[10..14]));
     let kind = match data_type {
         0 => Some("unary"),
         _ => stream_type.checked_sub(1).and_then(|index| KINDS.get(index).copied()),
@@ -22,7 +22,6 @@ fn header(h: &[u8]) -> Result<(&'static str, u64, usize), u32> {
         (5, kind.is_none()),
         (6, !(16..=65_536).contains(&total)),
         (7, header_size > most),
-        (8, reserved != 0),
     ];
     match broken.iter().find(|(_, broken)| *broken) {
         Some((code, _)) => Err(*code),

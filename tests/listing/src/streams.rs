@@ -41,6 +41,12 @@ impl Random {
         }
     }
 
+    /// The protocol version and the reserved byte: 0, or any.
+    fn last_two(&mut self) -> [u8; 2] {
+        let any = self.next() as u8;
+        [self.one_of(&[0, 1, 8, any]), self.one_of(&[0, 0, 0xFF, !any])]
+    }
+
     fn frame(&mut self, total: usize) -> Vec<u8> {
         let unary = self.below(2) == 0;
         let header_size = if unary { self.below(total - 15).min(65_535) as u16 } else { 0 };
@@ -53,7 +59,7 @@ impl Random {
         frame.extend((total as u32).to_be_bytes());
         frame.extend(header_size.to_be_bytes());
         frame.extend(id.to_be_bytes());
-        frame.extend([0, 0]);
+        frame.extend(self.last_two());
         frame.extend(self.bytes(total - 16));
         frame
     }
@@ -116,6 +122,15 @@ pub fn all(seed: u64) -> Vec<Case> {
         }
         cases.push(random.case("damaged", stream));
     }
+    // a gateway's frames, one for each version
+    let gateway: Vec<u8> = (0..=255)
+        .flat_map(|version| {
+            let mut frame = random.frame(16);
+            frame[14] = version;
+            frame
+        })
+        .collect();
+    cases.push(random.case("every version", gateway));
     // every value of every byte of the second of three headers
     for at in 0..16 {
         for value in 0..=255 {

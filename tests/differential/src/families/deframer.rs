@@ -3,12 +3,12 @@
 use super::header::header;
 use super::reader::{filled, filled_record, smaller_frames};
 use crate::difference::{hex, same, same_slices, Difference};
-use crate::generate::{damage, frame, Generator};
+use crate::generate::{damage, frame, with_last_two, Generator};
 use crate::lent::Lent;
 use crate::library;
 use crate::random::Random;
 use crate::reference::deframer::{uncut, End, State};
-use crate::reference::header::{first, LARGEST, UNARY};
+use crate::reference::header::{first, LARGEST, SIZE, UNARY};
 use crate::reference::interface::{self, Finished};
 use crate::reference::messages::{Kind, ROW_NUMBERS};
 use crate::reference::RETIRED;
@@ -111,7 +111,8 @@ impl Walk<'_> {
     fn misuse(&self, buffers: &mut Buffers, piece: &[u8], tally: &mut Tally) -> Result<(), Difference> {
         let Buffers { reference, library } = buffers;
         let strange = State { held: self.state.held + 17, error: 3 };
-        for (state, length) in [(self.state, LARGEST - 1), (strange, LARGEST)] {
+        let retired = State { held: SIZE, error: RETIRED[0] };
+        for (state, length) in [(self.state, LARGEST - 1), (strange, LARGEST), (retired, LARGEST)] {
             let expected = interface::deframe(state, &mut reference[..length], piece);
             let actual = library::deframe(state, &mut library.get_mut()[..length], piece);
             tally.count(expected.error);
@@ -234,17 +235,18 @@ fn shorter_streams(bytes: &[u8]) -> impl Iterator<Item = Vec<u8>> + '_ {
     whole.chain(inside).chain(fewer(bytes))
 }
 
-/// Streams that are short enough for every split: document 01's listing, a frame of 16 bytes and a refused header with bytes
-/// after them, and headers that never come to their end.
+/// Streams that are short enough for every split: document 01's listing, frames of 16 bytes and a refused header with bytes
+/// after them, and headers that never come to their end. Some have a version.
 fn short_streams() -> Vec<Vec<u8>> {
     let empty = frame(Kind::Request, 7, &[], &[]);
     let mut refused = empty.clone();
-    refused[15] = 1;
+    refused[7] = 15;
     vec![
         [&frame(Kind::Feedback, 5, &[0x08, 0xAC, 0x02], &[])[..], &[0x09]].concat(),
         [&empty[..], &[0x30]].concat(),
+        [&with_last_two(empty.clone(), 1, 0)[..], &[0x30]].concat(),
         [&refused[..], &[0x09]].concat(),
-        frame(Kind::Data, 5, &[], &[0x77])[..].to_vec(),
+        with_last_two(frame(Kind::Data, 5, &[], &[0x77]), 0xFE, 0xFF),
         vec![0x30; 15],
         empty[..13].to_vec(),
     ]
@@ -266,7 +268,7 @@ pub fn every_split(family: &mut Family) {
     }
 }
 
-/// Three pieces, empty ones too, by every pair of cuts, of streams of several frames.
+/// Three pieces, empty ones too, by every pair of cuts, of streams of several frames, each of another version.
 pub fn every_two_cuts(family: &mut Family) {
     let whole = four_frames();
     let mut refused = whole.clone();
@@ -283,13 +285,16 @@ pub fn every_two_cuts(family: &mut Family) {
 }
 
 fn four_frames() -> Vec<u8> {
-    [
-        frame(Kind::Response, 9, &[0x20, 0x05, 0x42, 0x06, 0x0A, 0x01, 0x6B, 0x12, 0x01, 0x76, 0x60, 0x02], &[1, 2, 3]),
+    let response = [0x20, 0x05, 0x42, 0x06, 0x0A, 0x01, 0x6B, 0x12, 0x01, 0x76, 0x60, 0x02];
+    let frames = [
+        frame(Kind::Response, 9, &response, &[1, 2, 3]),
         frame(Kind::Data, 4, &[], &[]),
         frame(Kind::Init, 4, &[0x0A, 0x03, 0x0A, 0x01, 0x63, 0x12, 0x00, 0x18, 0x07], &[]),
         frame(Kind::Close, 4, &[0x08, 0x01, 0x1A, 0x03, 0x62, 0x79, 0x65], &[]),
-    ]
-    .concat()
+    ];
+    let versions = [(1, 0), (0xFF, 1), (2, 0xFF), (0, 8)];
+    let under = |(frame, (version, last))| with_last_two(frame, version, last);
+    frames.into_iter().zip(versions).flat_map(under).collect()
 }
 
 /// A stream of some frames, long ones now and then, damaged or cut off or not.
@@ -301,6 +306,7 @@ fn stream(random: &mut Random) -> Vec<u8> {
         if random.one_in(24) {
             let size = random.pick(&[65_520, 65_519, 65_521, 4_000, 20_000]);
             next = frame(Kind::Data, 3, &[], &vec![random.byte(); size]);
+            next[14..16].copy_from_slice(&random.last_two());
         }
         bytes.extend(next);
     }
@@ -406,7 +412,8 @@ pub fn states(family: &mut Family) {
             if held > 16 && fixed.error() == 0 && random.one_in(2) { random.between(16, fixed.total) } else { held };
         let own = fixed.error();
         let small = random.below(12) as u32;
-        let error = random.pick(&[0, 0, 0, own, own, own, small, RETIRED[0], any as u32]);
+        let retired = random.pick(&RETIRED);
+        let error = random.pick(&[0, 0, 0, own, own, own, small, retired, any as u32]);
         let length =
             random.pick(&[0, 1, 15, 16, 65_535, LARGEST, LARGEST, LARGEST, LARGEST, LARGEST, LARGEST, 65_537, 70_000]);
         let mut start = start;

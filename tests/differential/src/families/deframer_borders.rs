@@ -2,10 +2,11 @@
 //! held.
 
 use super::deframer::{Standing, Stream};
-use crate::generate::frame;
+use crate::generate::{frame, with_last_two};
 use crate::reference::deframer::State;
 use crate::reference::header::{judge, LARGEST, SIZE};
 use crate::reference::messages::Kind;
+use crate::reference::RETIRED;
 use crate::run::Family;
 
 /// Sizes of frames: the least, the largest, and such as are around what a copy may be cut into.
@@ -14,27 +15,19 @@ const SIZES: [usize; 15] = [16, 17, 31, 32, 33, 255, 4_095, 4_096, 4_097, 8_191,
 /// The most bytes that are held before the call.
 const HELD: usize = 20;
 
-/// A frame of so many bytes.
+/// A frame of so many bytes. Those of one size have one version, and hardly any two sizes the same.
 fn frame_of(size: usize) -> Vec<u8> {
     let kind = [Kind::Data, Kind::Request][size % 2];
     let body: Vec<u8> = (SIZE..size).map(|place| place as u8 ^ (place >> 8) as u8).collect();
-    frame(kind, 7, &[], &body)
+    with_last_two(frame(kind, 7, &[], &body), (size / 16) as u8, size as u8)
 }
 
 /// A header for each refusal, with bytes after it.
 fn refused() -> Vec<Vec<u8>> {
-    let changes: [&[(usize, u8)]; 8] = [
-        &[(0, 0x30)],
-        &[(1, 0x09)],
-        &[(2, 2)],
-        &[(3, 5)],
-        &[(7, 15), (6, 0)],
-        &[(5, 1), (6, 0), (7, 1)],
-        &[(9, 1)],
-        &[(15, 1)],
-    ];
+    let changes: [&[(usize, u8)]; 7] =
+        [&[(0, 0x30)], &[(1, 0x09)], &[(2, 2)], &[(3, 5)], &[(7, 15), (6, 0)], &[(5, 1), (6, 0), (7, 1)], &[(9, 1)]];
     let change = |changes: &&[(usize, u8)]| {
-        let mut bytes = frame(Kind::Data, 7, &[], &[0x77; 284]);
+        let mut bytes = with_last_two(frame(Kind::Data, 7, &[], &[0x77; 284]), 3, 4);
         changes.iter().for_each(|(place, byte)| bytes[*place] = *byte);
         bytes
     };
@@ -59,6 +52,7 @@ pub fn ends(family: &mut Family) {
             for taken in [0, 1, rest.len() / 2, rest.len().saturating_sub(1), rest.len()] {
                 call(family, &whole, held, 0, &rest[..taken.min(rest.len())]);
             }
+            RETIRED.iter().for_each(|error| call(family, &whole, held, *error, rest));
             for next in &after {
                 for length in [1, SIZE - 1, SIZE, next.len()] {
                     call(family, &whole, held, 0, &[rest, &next[..length]].concat());

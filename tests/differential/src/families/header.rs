@@ -1,4 +1,5 @@
-//! The judge of a fixed header, and what a good one says: every length from 0 to 40, good headers with some bytes changed, and any bytes.
+//! The judge of a fixed header, and what a good one says: every length from 0 to 40, good headers with some bytes changed, and
+//! any bytes.
 
 use crate::difference::{hex, same, Difference};
 use crate::lent::Lent;
@@ -9,7 +10,7 @@ use crate::run::{Family, Tally};
 use crate::shrink::{fewer, lower, Case};
 
 #[derive(Clone)]
-struct Header(Vec<u8>);
+pub struct Header(pub Vec<u8>);
 
 impl Case for Header {
     fn compare(&self, tally: &mut Tally) -> Result<(), Difference> {
@@ -67,6 +68,9 @@ pub fn header(random: &mut Random) -> [u8; 16] {
     bytes[4..8].copy_from_slice(&total.to_be_bytes());
     bytes[8..10].copy_from_slice(&header_size.to_be_bytes());
     bytes[10..14].copy_from_slice(&random.u32().to_be_bytes());
+    if random.one_in(2) {
+        bytes[14..].copy_from_slice(&random.last_two());
+    }
     for _ in 0..random.pick(&[0, 0, 0, 1, 1, 2, 3]) {
         let value = random.byte();
         bytes[random.below(16)] = random.pick(&[0, 1, 2, 4, 5, value]);

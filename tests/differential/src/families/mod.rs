@@ -6,6 +6,7 @@ pub mod header;
 pub mod queue;
 pub mod reader;
 pub mod round_trip;
+pub mod versions;
 pub mod writer;
 pub mod writer_borders;
 
@@ -15,7 +16,10 @@ use crate::run::Family;
 type Entry = (&'static str, u64, fn(&mut Family));
 
 pub const ALL: &[Entry] = &[
-    ("header", 230, header::headers),
+    ("header", 210, header::headers),
+    ("last two bytes", 0, versions::last_two_bytes),
+    ("standing versions", 0, versions::standing),
+    ("written versions", 0, versions::written),
     ("short messages", 0, reader::short_messages),
     ("messages", 180, reader::messages),
     ("damaged frames", 160, reader::damaged),
@@ -35,6 +39,7 @@ pub const ALL: &[Entry] = &[
     ("rows", 0, writer_borders::rows),
     ("keys", 0, writer_borders::keys),
     ("round trips", 35, round_trip::round_trips),
+    ("written again", 20, round_trip::written_again),
     ("queue calls", 30, queue::calls),
     ("queues", 20, queue::queues),
 ];

@@ -6,7 +6,7 @@ use crate::lent::Lent;
 use crate::library;
 use crate::random::Random;
 use crate::reference::header::{first, SIZE, UNARY};
-use crate::reference::interface::{self, Numbers};
+use crate::reference::interface::{self, Numbers, RECORD_NUMBERS};
 use crate::reference::messages::{Kind, ROW_NUMBERS};
 use crate::run::{Family, Tally};
 use crate::shrink::{fewer, lower, smaller_messages, Case};
@@ -30,7 +30,7 @@ pub fn filled_record(with: u32) -> Numbers {
 }
 
 impl Reading {
-    fn plain(kind: Kind, frame: Vec<u8>) -> Reading {
+    pub fn plain(kind: Kind, frame: Vec<u8>) -> Reading {
         Reading { kind, frame, rows: ROW_NUMBERS + 8 }
     }
 }
@@ -60,7 +60,8 @@ impl Case for Reading {
 
     fn show(&self) -> String {
         format!(
-            "read as {:?} with {} row numbers (A5A50000 and on) and a record of 24 (5A5A0000 and on)\nframe, {} bytes: {}",
+            "read as {:?} with {} row numbers (A5A50000 and on) and a record of {RECORD_NUMBERS} (5A5A0000 and on)\n\
+             frame, {} bytes: {}",
             self.kind,
             self.rows,
             self.frame.len(),
@@ -126,7 +127,7 @@ fn kind(random: &mut Random) -> Kind {
     }
 }
 
-fn message_frame(random: &mut Random) -> (Kind, Vec<u8>) {
+pub fn message_frame(random: &mut Random) -> (Kind, Vec<u8>) {
     let kind = kind(random);
     let faults = random.pick(&[0, 0, 0, 1, 1, 2]);
     let tidy = random.one_in(4);
@@ -167,7 +168,7 @@ pub fn random_bytes(family: &mut Family) {
         let body_size = random.below(6);
         let body = if kind.is_unary() { random.bytes(body_size) } else { Vec::new() };
         let id = random.u32();
-        let frame = frame(kind, id, &message, &body);
+        let frame = Generator { random, tidy: false }.under_a_version(frame(kind, id, &message, &body));
         family.check(&Reading::plain(kind, frame));
     }
 }

@@ -1,10 +1,12 @@
-//! What the library writes, it reads back with the same meaning; and what it has read, it writes again as the same bytes.
+//! What the library writes, it reads back with the same meaning; and what it has read, it writes again as the same bytes. What it
+//! reads of any frame, it writes as the reference does.
 
+use super::reader::message_frame;
 use super::writer::{large, layout, Writing};
 use crate::difference::{same, same_slices, Difference};
 use crate::library;
 use crate::reference::header::LARGEST;
-use crate::reference::interface::{Numbers, RECORD_NUMBERS};
+use crate::reference::interface::{self, Numbers, RECORD_NUMBERS, VERSION};
 use crate::reference::messages::{Kind, Span, ROW_NUMBERS};
 use crate::run::{Family, Tally};
 use crate::shrink::Case;
@@ -12,10 +14,11 @@ use crate::shrink::Case;
 #[derive(Clone)]
 struct RoundTrip(Writing);
 
-/// What a record says, whatever its starts: id, numbers and marks, byte fields, rows, body.
+/// What a record says, whatever its starts: id, version, numbers and marks, byte fields, rows, body.
 #[derive(Debug, PartialEq)]
 struct Meaning<'a> {
     id: u32,
+    version: u8,
     numbers: Vec<u32>,
     marks: Vec<bool>,
     bytes: Vec<&'a [u8]>,
@@ -29,6 +32,7 @@ fn meaning<'a>(kind: Kind, record: &Numbers, source: &'a [u8], rows: &[u32], bod
     let numbers = layout.numbers.iter().chain(&layout.attachment);
     Meaning {
         id: record[0],
+        version: record[VERSION] as u8,
         numbers: numbers.map(|place| record[*place]).collect(),
         marks: layout.marks.iter().map(|place| record[*place] != 0).collect(),
         bytes: layout.bytes.iter().map(|place| bytes(record[*place], record[place + 1])).collect(),
@@ -83,5 +87,20 @@ pub fn round_trips(family: &mut Family) {
         let random = &mut family.random;
         let record = if random.one_in(200) { large(random) } else { Writing::good(random) };
         family.check(&RoundTrip(record));
+    }
+}
+
+/// What is read of a frame, whatever its encoding and its last two bytes of the fixed header, is written again, with the frame
+/// as the source.
+pub fn written_again(family: &mut Family) {
+    for _ in 0..family.inputs {
+        let (kind, frame) = message_frame(&mut family.random);
+        let (mut rows, mut record) = (vec![9; ROW_NUMBERS], [9; RECORD_NUMBERS]);
+        if interface::read(kind, &frame, &mut rows, &mut record) == 0 {
+            let body = Span { start: record[4], length: record[5] }.bytes(&frame).to_vec();
+            let mut case = Writing { kind, record, source: frame, rows, body, out: 0 };
+            case.out = case.size().map_or(LARGEST, |size| size + family.random.below(3));
+            family.check(&case);
+        }
     }
 }

@@ -5,7 +5,7 @@ use crate::lent::Lent;
 use crate::library;
 use crate::random::Random;
 use crate::reference::header::{LARGEST, SIZE};
-use crate::reference::interface::{self, Numbers, RECORD_NUMBERS};
+use crate::reference::interface::{self, Numbers, RECORD_NUMBERS, VERSION};
 use crate::reference::messages::Kind;
 use crate::reference::writer::frame;
 use crate::run::{Family, Tally};
@@ -29,7 +29,7 @@ pub struct Layout {
     pub marks: &'static [usize],
     pub attachment: Option<usize>,
     pub has_rows: bool,
-    /// Where the numbers begin that are zero.
+    /// Where the numbers begin that are zero, up to the version's.
     pub end: usize,
 }
 
@@ -154,6 +154,7 @@ impl Writing {
         let source_size = random.pick(&[0, 1, 30, 60, 300, 300, 700]);
         new.source = random.bytes(source_size);
         new.record[0] = random.number32();
+        new.record[VERSION] = random.version();
         let layout = layout(kind);
         for place in layout.numbers {
             new.record[*place] = if random.one_in(3) { 0 } else { random.number32() };
@@ -207,7 +208,7 @@ impl Writing {
         let exact = self.size().unwrap_or(40);
         let any = random.below(900);
         self.out = random.pick(&[exact, exact, exact, exact + 1, exact + 40, exact + 700, exact - 1, any, 0]);
-        for place in (2..8).chain(layout(self.kind).end..RECORD_NUMBERS) {
+        for place in (2..8).chain(layout(self.kind).end..VERSION) {
             self.record[place] = random.pick(&[0, 0, 1, 77, u32::MAX]);
         }
         if random.one_in(4) {

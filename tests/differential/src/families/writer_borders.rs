@@ -3,6 +3,7 @@
 
 use super::writer::{layout, Layout, Writing};
 use crate::reference::header::{LARGEST, SIZE};
+use crate::reference::interface::VERSION;
 use crate::reference::messages::{Kind, MOST_ROWS};
 use crate::run::Family;
 
@@ -17,11 +18,13 @@ fn varied(length: usize) -> Vec<u8> {
 }
 
 impl Writing {
-    /// A record with this in every number, so many bytes in every byte field and in the body, and so many rows.
-    fn full(kind: Kind, number: u32, length: usize, rows: usize) -> Writing {
+    /// A record with this in every number, the version's too, so many bytes in every byte field and in the body, and so many
+    /// rows.
+    pub fn full(kind: Kind, number: u32, length: usize, rows: usize) -> Writing {
         let mut case = Writing::new(kind);
         let Layout { numbers, bytes, marks, attachment, .. } = layout(kind);
         case.record[0] = number;
+        case.record[VERSION] = number;
         for place in numbers {
             case.record[*place] = number;
         }
@@ -69,7 +72,7 @@ impl Writing {
         self
     }
 
-    fn with_output(&self, out: usize) -> Writing {
+    pub fn with_output(&self, out: usize) -> Writing {
         Writing { out, ..self.clone() }
     }
 }

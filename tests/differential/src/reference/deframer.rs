@@ -33,8 +33,8 @@ fn known(state: State, buffer: &[u8]) -> bool {
         // "it holds under 16 bytes with number 0; or holds 16 or more with number 0, its first 16 judge good and their total
         // exceeds the count"
         0 => held < SIZE || (judged == 0 && first(buffer).total > held),
-        // "or holds exactly 16 that judge to its number, from 3 to 8"
-        3..=8 => held == SIZE && judged == error,
+        // "or holds exactly 16 that judge to its number, from 3 to 8"; but "a state that holds 8 is not known"
+        3..=7 => held == SIZE && judged == error,
         _ => false,
     }
 }
@@ -50,7 +50,7 @@ fn misuse(state: State, buffer: &[u8]) -> u32 {
     }
 }
 
-/// A call of the cutter. "Cutter 1, 2, a held refusal, then 3 to 8 rising."
+/// A call of the cutter. "Cutter 1, 2, a held refusal, then 3 to 8 rising", where "8 is no longer given".
 pub fn deframe(state: State, buffer: &mut [u8], piece: &[u8]) -> Step {
     let refused = |error| Step { answer: Answer::Refused(error), next: state, taken: 0 };
     let misuse = misuse(state, buffer);

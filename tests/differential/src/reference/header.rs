@@ -1,4 +1,4 @@
-//! "The 16 bytes".
+//! "The 16 bytes", of which the last two are source document 002's: "byte 15 the protocol version and only byte 16 reserved".
 
 /// The length of a fixed header.
 pub const SIZE: usize = 16;
@@ -17,7 +17,7 @@ pub struct FixedHeader {
     pub total: usize,
     pub header_size: usize,
     pub id: u32,
-    pub reserved: u16,
+    pub version: u8,
 }
 
 impl FixedHeader {
@@ -31,11 +31,12 @@ impl FixedHeader {
             total: wide(4) as usize,
             header_size: usize::from(b(8)),
             id: wide(10),
-            reserved: b(14),
+            version: bytes[14], // "Readers .. ignore byte 16."
         }
     }
 
-    /// "3-8 | header judge | magic; data type; stream type; total; header size; reserved", 0 for a good header.
+    /// "3-8 | header judge | magic; data type; stream type; total; header size; reserved" without the last: "Readers accept all
+    /// versions". 0 for a good header.
     pub fn error(&self) -> u32 {
         if self.magic != 0x0930 {
             3
@@ -47,8 +48,6 @@ impl FixedHeader {
             6
         } else if self.header_size > self.largest_header_size() {
             7
-        } else if self.reserved != 0 {
-            8
         } else {
             0
         }
@@ -64,7 +63,7 @@ impl FixedHeader {
     }
 }
 
-/// The judge of a fixed header. "Order: judge 9, then 3 to 8."
+/// The judge of a fixed header. "Order: judge 9, then 3 to 8", where "8 is no longer given".
 pub fn judge(bytes: &[u8]) -> u32 {
     match bytes.try_into() {
         Ok(header) => FixedHeader::of(header).error(),

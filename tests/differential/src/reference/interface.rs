@@ -7,9 +7,10 @@ use super::messages::{Kind, Message, FIELD_NUMBERS};
 use super::queue::{Job, Queue};
 use super::{reader, writer};
 
-/// How many numbers a record has, and where its fields begin.
-pub const RECORD_NUMBERS: usize = 24;
+/// How many numbers a record has, where its fields begin, and which has the version in its low byte.
+pub const RECORD_NUMBERS: usize = 25;
 pub const FIRST_FIELD: usize = 8;
+pub const VERSION: usize = FIRST_FIELD + FIELD_NUMBERS;
 
 /// The record of a kind as numbers.
 pub type Numbers = [u32; RECORD_NUMBERS];
@@ -22,6 +23,7 @@ pub struct Parsed {
     pub total: usize,
     pub header_size: usize,
     pub id: u32,
+    pub version: u32,
 }
 
 /// What a call of the deframer answered. `size` is the whole frame's, 0 where there is none.
@@ -62,8 +64,9 @@ pub fn header_check(bytes: &[u8]) -> u32 {
 pub fn header_parse(bytes: &[u8]) -> Parsed {
     match header::judge(bytes) {
         0 => {
-            let FixedHeader { data_type, stream_type, total, header_size, id, .. } = header::first(bytes);
-            Parsed { error: 0, frame_type: u32::from(data_type * stream_type), total, header_size, id }
+            let FixedHeader { data_type, stream_type, total, header_size, id, version, .. } = header::first(bytes);
+            let frame_type = u32::from(data_type * stream_type);
+            Parsed { error: 0, frame_type, total, header_size, id, version: version.into() }
         }
         error => Parsed { error, ..Parsed::default() },
     }
@@ -100,16 +103,18 @@ pub fn read(kind: Kind, frame: &[u8], rows: &mut [u32], record: &mut Numbers) ->
         record[place] = part.start;
         record[place + 1] = part.length;
     }
-    record[FIRST_FIELD..].copy_from_slice(&reading.message.numbers());
+    record[FIRST_FIELD..VERSION].copy_from_slice(&reading.message.numbers());
+    record[VERSION] = reading.header_version.into();
     0
 }
 
-/// The writer's input.
+/// The writer's input. The version is the low byte of its number; the others are not looked at.
 pub fn input<'a>(kind: Kind, record: &Numbers, source: &'a [u8], rows: &'a [u32], body: &'a [u8]) -> writer::Input<'a> {
     let mut fields = [0; FIELD_NUMBERS];
-    fields.copy_from_slice(&record[FIRST_FIELD..]);
+    fields.copy_from_slice(&record[FIRST_FIELD..VERSION]);
     let message = Message::of(kind, &fields);
-    writer::Input { id: record[0], row_count: record[1], message, source, rows, body }
+    let [header_version, ..] = record[VERSION].to_le_bytes();
+    writer::Input { id: record[0], header_version, row_count: record[1], message, source, rows, body }
 }
 
 /// Writes the frame of a record. "a refused write counts 0 bytes"

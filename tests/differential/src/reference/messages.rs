@@ -1,4 +1,4 @@
-//! "The messages (000)": the records, and the 24 numbers in which the C interface passes them.
+//! "The messages (000)": the records, and the 16 numbers in which the C interface passes their fields.
 
 /// "A byte field is a start and length counted from the frame's first byte; an empty one is 0, 0."
 #[derive(Clone, Copy, Debug, Default, PartialEq, Eq)]

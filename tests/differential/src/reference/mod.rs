@@ -12,8 +12,9 @@ pub mod writer;
 /// A refusal number of the papers.
 pub type Refusal = u32;
 
-/// The numbers that have no meaning any more. Document 02, P9: "20 is never used again."
-pub const RETIRED: [Refusal; 1] = [20];
+/// The numbers that have no meaning any more. Document 02, P2: "8 is no longer given and isn't used for anything else"; P9: "20
+/// is never used again."
+pub const RETIRED: [Refusal; 2] = [8, 20];
 
 #[cfg(test)]
 mod tests;

@@ -9,9 +9,10 @@ use super::messages::{
 use super::Refusal;
 
 /// What a frame says. "Beside its kind, a record is the id of bytes 11-14, that kind's own fields and present marks, and the
-/// row count"; "Header, body and attachment are handed back as parts of the caller's frame".
+/// row count"; "Every record carries the version"; "Header, body and attachment are handed back as parts of the caller's frame".
 pub struct Reading {
     pub id: u32,
+    pub header_version: u8,
     pub row_count: u32,
     pub header: Span,
     pub body: Span,
@@ -21,7 +22,7 @@ pub struct Reading {
 
 /// Reads a frame as a kind.
 ///
-/// "Reader: 16; fewer than 16 bytes is 9; 3 to 8; 9; then fields from left to right, .. 15 last."
+/// "Reader: 16; fewer than 16 bytes is 9; 3 to 8; 9; then fields from left to right, .. 15 last", where "8 is no longer given".
 pub fn read(kind: Kind, frame: &[u8], rows: &mut [u32]) -> Result<Reading, Refusal> {
     if rows.len() < ROW_NUMBERS {
         return Err(16);
@@ -86,7 +87,8 @@ fn read_parts(kind: Kind, fixed: &FixedHeader, frame: &[u8]) -> Result<(Reading,
     }
     let attachment = Span::of(body.end() - attachment_size as usize, attachment_size as usize);
     let row_count = reader.rows.len() as u32;
-    Ok((Reading { id: fixed.id, row_count, header, body, attachment, message }, reader.rows))
+    let FixedHeader { id, version: header_version, .. } = *fixed;
+    Ok((Reading { id, header_version, row_count, header, body, attachment, message }, reader.rows))
 }
 
 /// The messages of a frame. In each, "The last occurrence of a field wins; absent is 0 or empty", and "An unknown field, or a

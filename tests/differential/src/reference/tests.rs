@@ -1,20 +1,21 @@
-//! The reference itself: document 01's checked examples, and the frames that protoc wrote (crates/test_records, crates/test_writes).
+//! The reference itself: document 01's checked examples, document 02's last two bytes of the fixed header, and the frames that
+//! protoc wrote (crates/test_records, crates/test_writes).
 
 use super::deframer::{deframe, finish, uncut, Answer, End, State};
 use super::header::{judge, LARGEST};
-use super::interface::{read, write};
+use super::interface::{header_parse, read, write, Numbers, FIRST_FIELD, RECORD_NUMBERS, VERSION};
 use super::messages::Kind;
 use super::queue::{Job, Queue};
 use crate::generate::frame;
 
 /// The error code and the record of a frame.
-fn record(kind: Kind, frame: &[u8]) -> (u32, [u32; 24]) {
-    let mut record = [9; 24];
+fn record(kind: Kind, frame: &[u8]) -> (u32, Numbers) {
+    let mut record = [9; RECORD_NUMBERS];
     let error = read(kind, frame, &mut [9; 256], &mut record);
     (error, record)
 }
 
-fn message(kind: Kind, message: &[u8], body: &[u8]) -> (u32, [u32; 24]) {
+fn message(kind: Kind, message: &[u8], body: &[u8]) -> (u32, Numbers) {
     record(kind, &frame(kind, 7, message, body))
 }
 
@@ -40,6 +41,33 @@ fn headers() {
     assert_eq!([0, 4, 5].map(|stream_type| judge(&with(&[(2, 1), (3, stream_type)]))), [5, 0, 5]);
     assert_eq!([4, 5].map(|header_size| judge(&with(&[(7, 20), (9, header_size)]))), [0, 7]);
     assert_eq!(judge(&with(&[(2, 1), (3, 2), (7, 20), (9, 1)])), 7);
+}
+
+/// "byte 15 the protocol version and only byte 16 reserved"
+#[test]
+fn last_two_bytes() {
+    for (byte_15, byte_16) in [(1, 0), (0, 0xFF), (1, 0xFF), (0xFF, 1)] {
+        let header = with(&[(14, byte_15), (15, byte_16)]);
+        assert_eq!(judge(&header), 0);
+        assert_eq!(header_parse(&header).version, byte_15.into());
+        let (error, record) = record(Kind::Request, &header);
+        assert_eq!((error, record[0], record[VERSION]), (0, 7, byte_15.into()));
+        // "the writer writes the version given and 0 in byte 16"
+        let mut out = [0xA5; 16];
+        assert_eq!(write(Kind::Request, &record, &header, &[], &[], &mut out).size, 16);
+        assert_eq!(out, with(&[(14, byte_15)]));
+    }
+    // "A refused record .. is all zero"
+    let refused = with(&[(7, 15), (14, 1)]);
+    assert_eq!((header_parse(&refused).version, record(Kind::Request, &refused)), (0, (6, [0; RECORD_NUMBERS])));
+    // A frame of 24 bytes and version 1: "a state that holds 8 is not known"; one that holds 20 of its bytes is.
+    let mut buffer = vec![0; LARGEST];
+    buffer[..16].copy_from_slice(&with(&[(7, 24), (14, 1)]));
+    assert_eq!(finish(State { held: 20, error: 0 }, &buffer), End::Short(20));
+    let state = State { held: 16, error: 8 };
+    assert_eq!(finish(state, &buffer), End::Refused(2));
+    let step = deframe(state, &mut buffer, &[1]);
+    assert_eq!((step.answer, step.next, step.taken), (Answer::Refused(2), state, 0));
 }
 
 #[test]
@@ -138,7 +166,7 @@ fn hex(frame: &[u8], start: u32, length: u32) -> String {
 /// What crates/test_records prints of a frame.
 fn printed(kind: Kind, frame: &[u8], lent: usize) -> String {
     let before: Vec<u32> = (0..lent as u32).map(|place| 1 << 31 | place).collect();
-    let (mut rows, mut n) = (before.clone(), [9; 24]);
+    let (mut rows, mut n) = (before.clone(), [9; RECORD_NUMBERS]);
     let error = read(kind, frame, &mut rows, &mut n);
     let mut lines = Vec::new();
     for (name, part) in [("header", 2), ("body", 4), ("attachment", 6)] {
@@ -150,7 +178,8 @@ fn printed(kind: Kind, frame: &[u8], lent: usize) -> String {
     } else {
         let (name, fields) = names(kind);
         lines.push(format!("{name} {}", n[0]));
-        let mut numbers = n[8..].iter().copied();
+        lines.push(format!("header_version {}", n[VERSION]));
+        let mut numbers = n[FIRST_FIELD..VERSION].iter().copied();
         let mut next = || numbers.next().unwrap();
         for (name, prints) in fields {
             lines.push(match prints {
@@ -217,12 +246,12 @@ fn frames_of_protoc() {
 }
 
 /// What the reference has read of protoc's frames, it writes again, and as protoc wrote them but for those with zeros, repeated
-/// or unknown fields.
+/// or unknown fields, or with a last byte of the fixed header that is not 0.
 #[test]
 fn frames_of_protoc_written_again() {
     let (mut whole, mut equal) = (0, 0);
     for (label, kind, _, frame) in cases() {
-        let (mut rows, mut n) = ([9; 256], [9; 24]);
+        let (mut rows, mut n) = ([9; 256], [9; RECORD_NUMBERS]);
         if read(kind, &frame, &mut rows, &mut n) != 0 {
             continue;
         }
@@ -233,10 +262,10 @@ fn frames_of_protoc_written_again() {
         whole += 1;
         equal += usize::from(out[..written.size] == frame);
     }
-    assert_eq!((whole, equal), (662, 295));
+    assert_eq!((whole, equal), (686, 254));
 }
 
-/// The calls of crates/test_writes.
+/// The calls of crates/test_writes. Before the fields are ten numbers and the version.
 #[test]
 fn writes_of_protoc() {
     let input = std::fs::read(format!("{WRITES}/stdin")).unwrap();
@@ -244,15 +273,16 @@ fn writes_of_protoc() {
     let mut expected = expected.split("# ").skip(1);
     let mut rest = input.as_slice();
     while !rest.is_empty() {
-        let head = take_numbers(&mut rest, 10);
+        let head = take_numbers(&mut rest, 11);
         let fields = take_numbers(&mut rest, 16);
         let label = String::from_utf8(take(&mut rest, head[0] as usize).to_vec()).unwrap();
         let rows = take_numbers(&mut rest, head[1] as usize);
         let source = take_repeated(&mut rest, head[5], head[2]);
         let body = take_repeated(&mut rest, head[6], head[3]);
-        let mut record = [0; 24];
+        let mut record = [0; RECORD_NUMBERS];
         record[..2].copy_from_slice(&head[8..10]);
-        record[8..].copy_from_slice(&fields);
+        record[FIRST_FIELD..VERSION].copy_from_slice(&fields);
+        record[VERSION] = head[10];
         let mut out = vec![0xA5; head[4] as usize];
         let written = write(Kind::ALL[head[7] as usize], &record, &source, &rows, &body, &mut out);
         let answer = match written.error {

@@ -7,6 +7,7 @@ use super::Refusal;
 /// "The writer takes a record, the bytes its starts refer to, its rows and a body."
 pub struct Input<'a> {
     pub id: u32,
+    pub header_version: u8,
     pub row_count: u32,
     pub message: Message,
     pub source: &'a [u8],
@@ -69,7 +70,7 @@ pub fn frame(input: &Input) -> Result<Vec<u8>, Refusal> {
     if total > LARGEST {
         return Err(19);
     }
-    Ok([&fixed_header(kind, total, header.len(), input.id), header.as_slice(), body].concat())
+    Ok([&fixed_header(input, total, header.len()), header.as_slice(), body].concat())
 }
 
 /// The header message of an input that has no ground before its size.
@@ -113,7 +114,9 @@ fn absent_parts_empty(input: &Input) -> bool {
     (request_meta_present || request_meta_empty) && (response_meta_present || response_meta_empty)
 }
 
-fn fixed_header(kind: Kind, total: usize, header_size: usize, id: u32) -> [u8; SIZE] {
+/// The 16 bytes. "the writer writes the version given and 0 in byte 16"
+fn fixed_header(input: &Input, total: usize, header_size: usize) -> [u8; SIZE] {
+    let kind = input.message.kind();
     let (data_type, header_size) = if kind.is_unary() { (0, header_size) } else { (1, 0) };
     let mut bytes = [0; SIZE];
     bytes[0..2].copy_from_slice(&[0x09, 0x30]);
@@ -121,7 +124,8 @@ fn fixed_header(kind: Kind, total: usize, header_size: usize, id: u32) -> [u8; S
     bytes[3] = kind.stream_type();
     bytes[4..8].copy_from_slice(&(total as u32).to_be_bytes());
     bytes[8..10].copy_from_slice(&(header_size as u16).to_be_bytes());
-    bytes[10..14].copy_from_slice(&id.to_be_bytes());
+    bytes[10..14].copy_from_slice(&input.id.to_be_bytes());
+    bytes[14] = input.header_version;
     bytes
 }
 
