@@ -119,7 +119,8 @@ static const char *const type_names[] = {"unary", "init", "data", "feedback", "c
 /* Whether a frame may be a request; reports one that is not. The deframer has found its header good. */
 static int is_unary(const uint8_t *frame)
 {
-    uint32_t type, id, version;
+    uint32_t type, id;
+    uint8_t version;
     size_t total, header_size;
 
     trpc_header_parse(frame, TRPC_HEADER_SIZE, &type, &total, &header_size, &id, &version);

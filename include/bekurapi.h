@@ -107,7 +107,7 @@ enum trpc_frame_type {
  * header_size  receives the size of a unary frame's header message. It is 0 for a stream frame.
  * id           receives the request id or stream id, bytes 11-14. It is the one to answer with.
  * header_version
- *              receives the protocol version, byte 15: 0 to 255. A record has it under the same name.
+ *              receives the protocol version, byte 15. A record has it under the same name.
  *
  * Returns the code of enum trpc_header_error that trpc_header_check returns. After a refusal all five are 0.
  *
@@ -117,7 +117,7 @@ enum trpc_frame_type {
  *     }
  */
 uint32_t trpc_header_parse(const uint8_t *bytes, size_t len, uint32_t *frame_type, size_t *total, size_t *header_size,
-                           uint32_t *id, uint32_t *header_version);
+                           uint32_t *id, uint8_t *header_version);
 
 /* ---- Cutting a stream into frames ---- */
 
@@ -231,7 +231,8 @@ struct trpc_span {
  * zero        0 when read. A writer does not look at it.
  * header_version
  *             the protocol version of the fixed header, byte 15. Any value is taken. The `version` of a request or a
- *             response is a field of its message, another thing.
+ *             response is a field of its message, another thing. It is the low byte of the record's last number, so its
+ *             place is that of a little-endian machine, for which the library is built.
  * unused      0 when read. A writer does not look at it.
  *
  * Enumerated numbers pass through as they are.

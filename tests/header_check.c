@@ -50,7 +50,8 @@ static void fail(const char *what, const uint8_t *bytes, size_t len, uint32_t wa
 /* What a good header says; all zero where it is refused. */
 static void check_parse(const uint8_t *bytes, size_t len, uint32_t want)
 {
-    uint32_t type = 99, id = 99, version = 999;
+    uint32_t type = 99, id = 99;
+    uint8_t version = 99;
     size_t total = 99, header_size = 99;
     uint32_t got = trpc_header_parse(bytes, len, &type, &total, &header_size, &id, &version);
     if (got != want)

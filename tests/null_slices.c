@@ -45,7 +45,8 @@ static int has(unsigned empty, unsigned parameter)
 static void headers(void)
 {
     for (int null = 0; null < 2; null++) {
-        uint32_t type = 9, id = 9, version = 9;
+        uint32_t type = 9, id = 9;
+        uint8_t version = 9;
         size_t total = 9, size = 9;
 
         expect("trpc_header_check", 0, 1, trpc_header_check(nothing(null), 0) == TRPC_HEADER_LENGTH);

@@ -129,7 +129,8 @@ static void call_check(void)
 
 static void call_parse(void)
 {
-    uint32_t type, id, version;
+    uint32_t type, id;
+    uint8_t version;
     size_t total, size;
 
     code = trpc_header_parse(frame, TRPC_HEADER_SIZE, &type, &total, &size, &id, &version);

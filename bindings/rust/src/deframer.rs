@@ -203,8 +203,8 @@ mod tests {
     /// The first 16 bytes of a Data frame of 24, of protocol version 1.
     const HEADER: [u8; 16] = [0x09, 0x30, 1, 2, 0, 0, 0, 24, 0, 0, 0, 0, 0, 7, 1, 0];
 
-    /// A deframer in a state that no call may have left, over a buffer that begins with these bytes.
-    fn standing(held: usize, error: u32, start: &[u8; 16]) -> Deframer {
+    /// A deframer in a state, whether a call can leave it or not, over a buffer that begins with these bytes.
+    fn in_state(held: usize, error: u32, start: &[u8; 16]) -> Deframer {
         let mut deframer = Deframer { held, error, ..Deframer::new() };
         deframer.buffer[..16].copy_from_slice(start);
         deframer
@@ -230,7 +230,7 @@ mod tests {
                 let mut header = HEADER;
                 header[place] = value;
                 for held in [0, 15, 16, 17, 20] {
-                    is_not_known(standing(held, error, &header));
+                    is_not_known(in_state(held, error, &header));
                 }
             }
         }
@@ -243,7 +243,7 @@ mod tests {
             for value in 0..=255 {
                 let mut header = HEADER;
                 header[place] = value;
-                let mut deframer = standing(20, 0, &header);
+                let mut deframer = in_state(20, 0, &header);
                 assert_eq!(deframer.finish(), Ok(End::Short(20)));
                 let Progress { taken, frame } = deframer.push(&[0x77; 9]);
                 assert_eq!((taken, frame.unwrap().unwrap().len()), (4, 24));

@@ -167,6 +167,5 @@ pub fn parse_header(bytes: &[u8]) -> Result<FixedHeader, Error> {
         )
     };
     checked(code)?;
-    // The version is a byte's number.
-    Ok(FixedHeader { frame_type: FrameType::from_number(frame_type), total, header_size, id, version: version as u8 })
+    Ok(FixedHeader { frame_type: FrameType::from_number(frame_type), total, header_size, id, version })
 }

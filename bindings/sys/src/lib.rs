@@ -115,7 +115,7 @@ extern "C" {
         total: *mut usize,
         header_size: *mut usize,
         id: *mut u32,
-        header_version: *mut u32,
+        header_version: *mut u8,
     ) -> u32;
 
     /// One call of the deframer.

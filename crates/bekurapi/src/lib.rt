@@ -43,7 +43,7 @@ pub extern "C" fn trpc_header_parse(
     total: &mut usize,
     header_size: &mut usize,
     id: &mut u32,
-    header_version: &mut u32,
+    header_version: &mut u8,
 ) -> u32
     ensures { λ r. ⌜ ParsedAs (now (bytes .entry))
         r (now («frame_type» .exit)) (now (total .exit)) (now («header_size» .exit)) (now (id .exit))
@@ -56,7 +56,7 @@ pub extern "C" fn trpc_header_parse(
     *total = header.total;
     *header_size = header.header_size;
     *id = header.id;
-    *header_version = header.version as u32;
+    *header_version = header.version;
     parsed_error(answer)
 }
 

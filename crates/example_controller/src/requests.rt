@@ -80,7 +80,7 @@ fn print_request(frame: &[u8], located: Located, request: Request, rows: &[u32])
     print_numbers(request.id, request.header_version, request.timeout);
     print(b", func ");
     print_span(frame, request.func);
-    print_map(frame, rows, request.rows);
+    print_rows(frame, rows, request.rows as usize);
     print(b", body \"");
     print_span(frame, located.body);
     print(b"\"\n");
@@ -99,11 +99,6 @@ fn print_numbers(id: u32, version: u8, timeout: u32) {
 fn print_span(frame: &[u8], span: Span) {
     let start = span.start as usize;
     print(part(frame, start, start + span.len as usize));
-}
-
-// The rows of the map, as many as the record says.
-fn print_map(frame: &[u8], rows: &[u32], count: u32) {
-    print_rows(frame, rows, count as usize);
 }
 
 fn print_rows(frame: &[u8], rows: &[u32], count: usize) {

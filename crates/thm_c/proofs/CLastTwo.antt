@@ -7,10 +7,10 @@
 -- `c-byte-16-ignored`: if they agree on byte 15, too, all that C has after the two calls is the same.
 -- `c-last-two-ignored`: of two headers of one length that agree on their first 14 bytes `trpc_header_check` returns the same number.
 -- `c-byte-16-unparsed`: if they agree on byte 15, too, `trpc_header_parse` gives the same of both.
--- `c-step-alike`: of two calls of `trpc_deframe` with one state, whose buffers, and whose bytes held with the piece after them, are of one
--- length and agree on their first 14 bytes, all numbers are the same: what is returned, `held`, `error`, `taken` and `size`.
--- `c-end-alike`: `trpc_finish` gives the same of both.
--- Not promised: anything of frames of different lengths.
+-- `c-step-alike`: of two calls of `trpc_deframe` with one state, buffers of one length and pieces of one length, where the bytes held with
+-- the piece after them agree on their first 14, all numbers are the same: what is returned, `held`, `error`, `taken` and `size`.
+-- `c-end-alike`: of two buffers of one length that agree on their first 14 bytes `trpc_finish` gives the same.
+-- Not promised: anything of frames of different lengths, nor that the buffers are the same after two calls of `trpc_deframe`.
 -- Ruled out: a deframer, a reader or a judge that refuses a version, one that looks at byte 16, and a number of a record, other than its
 -- last, that is taken from either.
 -- Assumes nothing.
@@ -95,19 +95,19 @@ c-byte-16-unparsed a b x y long front parses-a parses-b =
     all-parsed a x parses-a ∙ ap parsedC (byte-16-unparsed a b front long) ∙ sym (all-parsed b y parses-b)
 
 -- ---- two calls of the deframer with one state, and two ends of a stream
-module _ (held error : ℕ) (b c : List ℕ) (long : length b ≡ length c) (front : take 14 b ≡ take 14 c) where
+module _ (held error : ℕ) (b c : List ℕ) (long : length b ≡ length c) where
   abbrev state : Deframer
   state = deframerOf held error
 
-  pub c-end-alike : (x y : CFinished) → CFinishes held error b x → CFinishes held error c y → x ≡ y
-  c-end-alike x y ends-b ends-c =
+  pub c-end-alike : take 14 b ≡ take 14 c → (x y : CFinished) → CFinishes held error b x → CFinishes held error c y → x ≡ y
+  c-end-alike front x y ends-b ends-c =
       all-finished held error b x ends-b ∙ ap finishedC (end-alike state b c long front) ∙ sym (all-finished held error c y ends-c)
 
   pub c-step-alike : (p q : List ℕ) → length p ≡ length q → take 14 (stream held b p) ≡ take 14 (stream held c q)
       → (x y : CDeframed) → CDeframes held error b p x → CDeframes held error c q y
       → (x .code ≡ y .code) × (x .held ≡ y .held) × (x .error ≡ y .error) × (x .taken ≡ y .taken) × (x .size ≡ y .size)
   c-step-alike p q pieces streams x y cuts-b cuts-c =
-      let same = step-alike state b c long front p q pieces streams in
+      let same = step-alike state b c long p q pieces streams in
       let is-x = all-deframed held error b p x cuts-b in
       let is-y = all-deframed held error c q y cuts-c in
       rw (is-x, is-y) (

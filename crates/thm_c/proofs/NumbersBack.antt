@@ -1,7 +1,8 @@
 -- For a user in C: what the numbers of a record say is the record.
 --
 -- Promised: of every record that a program can hold, its 25 numbers and its kind give it back (`numbers-back`); and of every frame, kind
--- and row numbers, what a reader gave gives back the record that was read (`reading-back`), so it can be handed to the writer of its kind.
+-- and row numbers, what a reader gave gives back the record that was read (`reading-back`), so it can be handed to the writer of its kind;
+-- and its last number is the frame's version (`version-read`).
 -- Not promised: what the writer makes of the record, which `c-read-back` says.
 -- Ruled out: an int32 that comes back unsigned, and a field that is stored at one place and looked for at another.
 use Prim.Native.Nat.{ℕ, _%_, _^_, _<_}

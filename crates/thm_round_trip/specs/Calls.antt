@@ -25,7 +25,7 @@ abbrev pub Locates : Kind → (frame lent : List ℕ) → Located → (rows : Li
 Locates kind frame lent x rows = (x ≡ spansOf (readFrame kind frame lent) (length frame)) × (rows ≡ readFrame kind frame lent .rows)
 
 -- A record that a program passes to `write`: it has a machine value, as its declared types lay it out. Every record that a program can make
--- has one; a number past its 32 bits has none.
+-- has one; a number past its 32 bits, or a version past its 8, has none.
 pub record Held (r : Record) : Type 0 where
   pub value : List Val
   pub is : Is declared.the-row r value

@@ -48,7 +48,7 @@ pub fn header_check(bytes: &[u8]) -> u32 {
 }
 
 pub fn header_parse(bytes: &[u8]) -> Parsed {
-    let (mut frame_type, mut id, mut version) = (NO_NUMBER, NO_NUMBER, NO_NUMBER);
+    let (mut frame_type, mut id, mut version) = (NO_NUMBER, NO_NUMBER, NO_NUMBER as u8);
     let (mut total, mut header_size) = (NO_ANSWER, NO_ANSWER);
     let error = unsafe {
         c::trpc_header_parse(

@@ -115,7 +115,7 @@ pub unsafe fn trpc_header_parse(
     total: *mut usize,
     header_size: *mut usize,
     id: *mut u32,
-    version: *mut u32,
+    header_version: *mut u8,
 ) -> u32 {
     let bytes = from_raw_parts(bytes, len);
     let answer = interface::header_parse(bytes);
@@ -123,9 +123,9 @@ pub unsafe fn trpc_header_parse(
     *total = answer.total;
     *header_size = answer.header_size;
     *id = if fault("id-of-16-bits") { answer.id & 0xFFFF } else { answer.id };
-    *version = match answer.error {
-        0 if fault("parsed-version-of-byte-16") => bytes[15].into(),
-        6 if fault("parsed-version-of-a-refusal") => bytes[14].into(),
+    *header_version = match answer.error {
+        0 if fault("parsed-version-of-byte-16") => bytes[15],
+        6 if fault("parsed-version-of-a-refusal") => bytes[14],
         _ => answer.version,
     };
     returned(answer.error, "retired-number-of-parse")

@@ -8,12 +8,12 @@ use Rattle.bekurapi.proofs.trpc_header_parse.Tie as tie
 
 returns : tie.Need-returns
 returns c =
-    let at-header-in = c .before .before .before in
+    let at-header-in = c .before .before in
     let answer = at-header-in .before .parse-header .ensures in
     let header = at-header-in .header-in .ensures ∙ ap headerGiven answer in
     record {
       code-is = c .parsed-error .ensures ∙ ap parsedError answer;
-      type-is = c .before .before .type-number .ensures ∙ ap (λ (h : FixedHeader). typeNumber (h .«frame_type»)) header;
+      type-is = c .before .type-number .ensures ∙ ap (λ (h : FixedHeader). typeNumber (h .«frame_type»)) header;
       total-is = ap (λ (h : FixedHeader). h .total) header;
       header-size-is = ap (λ (h : FixedHeader). h .«header_size») header;
       id-is = ap (λ (h : FixedHeader). h .id) header;
@@ -27,6 +27,5 @@ trpc-header-parse-spec =
     (λ c κs. search needs)
     (λ c κs. search needs)
     (λ c κs. search needs)
-    (λ c. search needs)
     (λ c κs. search needs)
     returns)

@@ -23,7 +23,7 @@ pub struct Parsed {
     pub total: usize,
     pub header_size: usize,
     pub id: u32,
-    pub version: u32,
+    pub version: u8,
 }
 
 /// What a call of the deframer answered. `size` is the whole frame's, 0 where there is none.
@@ -66,7 +66,7 @@ pub fn header_parse(bytes: &[u8]) -> Parsed {
         0 => {
             let FixedHeader { data_type, stream_type, total, header_size, id, version, .. } = header::first(bytes);
             let frame_type = u32::from(data_type * stream_type);
-            Parsed { error: 0, frame_type, total, header_size, id, version: version.into() }
+            Parsed { error: 0, frame_type, total, header_size, id, version }
         }
         error => Parsed { error, ..Parsed::default() },
     }

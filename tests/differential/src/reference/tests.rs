@@ -49,7 +49,7 @@ fn last_two_bytes() {
     for (byte_15, byte_16) in [(1, 0), (0, 0xFF), (1, 0xFF), (0xFF, 1)] {
         let header = with(&[(14, byte_15), (15, byte_16)]);
         assert_eq!(judge(&header), 0);
-        assert_eq!(header_parse(&header).version, byte_15.into());
+        assert_eq!(header_parse(&header).version, byte_15);
         let (error, record) = record(Kind::Request, &header);
         assert_eq!((error, record[0], record[VERSION]), (0, 7, byte_15.into()));
         // "the writer writes the version given and 0 in byte 16"
