@@ -230,9 +230,9 @@ struct trpc_span {
  * .._present  0 or 1 when read. When written, any number but 0 marks a part as present.
  * zero        0 when read. A writer does not look at it.
  * header_version
- *             the protocol version of the fixed header, byte 15. Any value is taken. The `version` of a request or a
- *             response is a field of its message, another thing. It is the low byte of the record's last number, so its
- *             place is that of a little-endian machine, for which the library is built.
+ *             the protocol version of the fixed header, byte 15. Any value is taken. To the library it is the low byte
+ *             of a 25th number, with `unused` above it, so its place is that of a little-endian machine, for which the
+ *             library is built. The `version` of a request or a response is a field of its message, another thing.
  * unused      0 when read. A writer does not look at it.
  *
  * Enumerated numbers pass through as they are.

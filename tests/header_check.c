@@ -47,15 +47,22 @@ static void fail(const char *what, const uint8_t *bytes, size_t len, uint32_t wa
     exit(1);
 }
 
-/* What a good header says; all zero where it is refused. */
+/* What a good header says; all zero where it is refused. Nothing beside the version is written. */
 static void check_parse(const uint8_t *bytes, size_t len, uint32_t want)
 {
+    static const uint8_t beside[8] = {99, 99, 99, 99, 99, 99, 99, 99};
+    struct {
+        uint8_t before[8], version, after[8];
+    } lent;
     uint32_t type = 99, id = 99;
-    uint8_t version = 99;
     size_t total = 99, header_size = 99;
-    uint32_t got = trpc_header_parse(bytes, len, &type, &total, &header_size, &id, &version);
+    memset(&lent, 99, sizeof lent);
+    uint32_t got = trpc_header_parse(bytes, len, &type, &total, &header_size, &id, &lent.version);
+    uint8_t version = lent.version;
     if (got != want)
         fail("the code of the parser", bytes, len, want, got);
+    if (memcmp(lent.before, beside, sizeof beside) != 0 || memcmp(lent.after, beside, sizeof beside) != 0)
+        fail("a byte beside the version was written", bytes, len, want, got);
     int right = want != 0 ? type == 0 && total == 0 && header_size == 0 && id == 0 && version == 0
                           : type == (bytes[2] == 0 ? 0u : bytes[3]) && total == be32(bytes + 4) &&
                                 header_size == bytes[8] * 256u + bytes[9] && id == be32(bytes + 10) &&

@@ -2,17 +2,17 @@
 -- `finish` name.
 --
 -- Promised, of any state, of two calls whose buffers are of one length and whose pieces are of one length, where the bytes held with the
--- piece after them agree on their first 14: the answer, the next state and the count taken are the same (`step-alike`). Of two buffers of
--- one length that agree on their first 14 bytes the end of the stream is the same (`end-alike`). So neither byte 15 nor byte 16 of the
--- header that a call looks at decides anything.
+-- piece after them agree on their first 14: the answer, the next state and the count taken are the same (`step-alike`). With one state, of
+-- two buffers of one length that agree on their first 14 bytes, the end of the stream is the same (`end-alike`). So neither byte 15 nor
+-- byte 16 of the header that a call looks at decides anything.
 -- Not promised: that the buffers are the same; the bytes are in them as they came. Anything of several calls in turn: the stream theorem
--- has that, over the uncut reading, whose header check is `last-two-ignored`'s.
+-- speaks of these, of one stream against its uncut reading, and `uncut-alike` (proofs/LastTwoUncut) of the uncut readings of two streams.
 -- Ruled out: a deframer that refuses a version, waits for more under one, or looks at byte 16.
 -- Assumes nothing.
 use Prim.Native.Nat.{ℕ, _≤_, _<_}
 use mathlib.Core.Path.{_≡_, refl, ap, sym, _∙_}
 use mathlib.Core.Bool.{Bool, true, false, cond, not}
-use mathlib.Core.List.{List, _++_}
+use mathlib.Core.List.{List}
 use native.Mathlib.Omega.{arith}
 use native.Mathlib.Decide.{decLt}
 use borrow.Author.Tests.{lt-ltb, ne-eqb}
@@ -79,7 +79,7 @@ module _ (state : Deframer) (b c : List ℕ) (long : length b ≡ length c) wher
           pieces,
         )
 
-    -- where 16 are held they are the buffer's first, and where fewer are, nothing of the buffer says whether the state is known
+    -- where 16 or more are held they are the buffer's first, and where fewer are, nothing of the buffer says whether the state is known
     held-front : 16 ≤ state .held → maxFrame ≤ length b → take 14 b ≡ take 14 c
     held-front h big = sym (head b p (omega arith)) ∙ streams ∙ head c q (omega (arith, long))
       where

@@ -7,5 +7,6 @@ pub mod Uncut
 -- Document 02, P2
 pub mod Eight
 pub mod LastTwoCut
+pub mod LastTwoUncut
 -- Demand 1, of every public entry
 pub mod AsksNothing

@@ -9,7 +9,7 @@
 -- `c-byte-16-unparsed`: if they agree on byte 15, too, `trpc_header_parse` gives the same of both.
 -- `c-step-alike`: of two calls of `trpc_deframe` with one state, buffers of one length and pieces of one length, where the bytes held with
 -- the piece after them agree on their first 14, all numbers are the same: what is returned, `held`, `error`, `taken` and `size`.
--- `c-end-alike`: of two buffers of one length that agree on their first 14 bytes `trpc_finish` gives the same.
+-- `c-end-alike`: with one state, of two buffers of one length that agree on their first 14 bytes, `trpc_finish` gives the same.
 -- Not promised: anything of frames of different lengths, nor that the buffers are the same after two calls of `trpc_deframe`.
 -- Ruled out: a deframer, a reader or a judge that refuses a version, one that looks at byte 16, and a number of a record, other than its
 -- last, that is taken from either.
