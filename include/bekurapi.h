@@ -53,19 +53,46 @@ extern "C" {
 /* The length of a fixed header. */
 #define TRPC_HEADER_SIZE 16
 
+/* ---- The ceiling of a connection ---- */
+
+/* The largest frame of any connection, its fixed header included, and so the largest ceiling. */
+#define TRPC_MAX_FRAME 65536
+
+/* The smallest ceiling: a frame is a fixed header and nothing more. */
+#define TRPC_MIN_CEILING 16
+
 /*
- * The error codes of trpc_header_check and trpc_header_parse. The header's bytes are counted from 1, and its numbers
- * are big-endian (docs/PROTOCOL.md, "The 16 bytes"). Any id (bytes 11-14), any version (byte 15) and any byte 16 is
- * good.
+ * A ceiling is the most bytes that a frame of one connection has, its fixed header included. It is from
+ * TRPC_MIN_CEILING to TRPC_MAX_FRAME, and TRPC_MAX_FRAME where a connection needs no other. Every function that checks,
+ * cuts, reads or writes a frame takes one, after the slice that holds the frame. The caller passes the same one in all
+ * calls for a connection. No function keeps it.
  *
- * Order: TRPC_HEADER_LENGTH, then the others by rising number.
+ * - A header whose total is over the ceiling is refused with TRPC_HEADER_TOTAL, unless 3 to 5 come first.
+ * - The deframer's buffer need only be as long as the ceiling. A shorter one is refused with TRPC_DEFRAME_BUFFER.
+ * - A record whose frame would be over the ceiling is refused with TRPC_WRITE_FRAME.
+ *
+ * A ceiling out of range comes before every other ground of a function. State, buffer, rows and output stay as they
+ * were, nothing is taken, and all else that the function writes is 0.
+ */
+enum trpc_ceiling_error {
+    TRPC_BAD_CEILING = 41 /* the ceiling is not 16 to 65,536 */
+};
+
+/* ---- The fixed header ---- */
+
+/*
+ * The error codes of trpc_header_check and trpc_header_parse, beside TRPC_BAD_CEILING. The header's bytes are counted
+ * from 1, and its numbers are big-endian (docs/PROTOCOL.md, "The 16 bytes"). Any id (bytes 11-14), any version (byte
+ * 15) and any byte 16 is good.
+ *
+ * Order: TRPC_BAD_CEILING, TRPC_HEADER_LENGTH, then the others by rising number.
  */
 enum trpc_header_error {
     TRPC_HEADER_GOOD = 0,        /* a good header */
     TRPC_HEADER_MAGIC = 3,       /* bytes 1-2 are not 09 30 */
     TRPC_HEADER_DATA_TYPE = 4,   /* byte 3 is neither 0 (unary) nor 1 (stream) */
     TRPC_HEADER_STREAM_TYPE = 5, /* stream frame: byte 4 is not 1 (Init), 2 (Data), 3 (Feedback) or 4 (Close) */
-    TRPC_HEADER_TOTAL = 6,       /* bytes 5-8, the frame's size with these 16, are not 16 to 65,536 */
+    TRPC_HEADER_TOTAL = 6,       /* bytes 5-8, the frame's size with these 16, are not 16 to the ceiling */
     TRPC_HEADER_HEADER_SIZE = 7, /* bytes 9-10 are more than the total less 16 (unary), or not 0 (stream) */
     TRPC_HEADER_LENGTH = 9       /* the number of bytes given is not 16 */
 };
@@ -73,18 +100,19 @@ enum trpc_header_error {
 /*
  * Checks a fixed header.
  *
- * bytes  the header.
- * len    how many bytes there are. Any number is taken, and only 16 can be good.
+ * bytes    the header.
+ * len      how many bytes there are. Any number is taken, and only 16 can be good.
+ * ceiling  the connection's ceiling (above).
  *
- * Returns a code of enum trpc_header_error.
+ * Returns a code of enum trpc_header_error, or TRPC_BAD_CEILING.
  *
  *     static const uint8_t header[16] = {0x09, 0x30, 0, 0, 0, 0, 0, 16, 0, 0, 0, 0, 0, 7, 0, 0};
  *
- *     if (trpc_header_check(header, sizeof header) == TRPC_HEADER_GOOD) {
+ *     if (trpc_header_check(header, sizeof header, TRPC_MAX_FRAME) == TRPC_HEADER_GOOD) {
  *         // a unary frame of 16 bytes with the request id 7
  *     }
  */
-uint32_t trpc_header_check(const uint8_t *bytes, size_t len);
+uint32_t trpc_header_check(const uint8_t *bytes, size_t len, uint32_t ceiling);
 
 /*
  * What a fixed header says a frame is. The numbers are those of the stream type, and 0 for unary. A unary frame does
@@ -101,7 +129,8 @@ enum trpc_frame_type {
 /*
  * Reads a fixed header. It is for a caller that has a frame and is to choose its reader.
  *
- * bytes, len   the header, as for trpc_header_check: the first 16 bytes of a frame.
+ * bytes, len, ceiling
+ *              as for trpc_header_check. The header is the first 16 bytes of a frame.
  * frame_type   receives one of enum trpc_frame_type.
  * total        receives the frame's size, its fixed header included.
  * header_size  receives the size of a unary frame's header message. It is 0 for a stream frame.
@@ -109,42 +138,45 @@ enum trpc_frame_type {
  * header_version
  *              receives the protocol version, byte 15. A record has it under the same name.
  *
- * Returns the code of enum trpc_header_error that trpc_header_check returns. After a refusal all five are 0.
+ * Returns the code that trpc_header_check returns. After a refusal all five are 0.
  *
- *     code = trpc_header_parse(frame, TRPC_HEADER_SIZE, &frame_type, &total, &header_size, &id, &header_version);
+ *     code = trpc_header_parse(frame, TRPC_HEADER_SIZE, ceiling, &frame_type, &total, &header_size, &id,
+ *                              &header_version);
  *     if (code == 0 && frame_type == TRPC_FRAME_FEEDBACK) {
- *         // a Feedback frame of the stream id: trpc_read_feedback(frame, total, ..)
+ *         // a Feedback frame of the stream id: trpc_read_feedback(frame, total, ceiling, ..)
  *     }
  */
-uint32_t trpc_header_parse(const uint8_t *bytes, size_t len, uint32_t *frame_type, size_t *total, size_t *header_size,
-                           uint32_t *id, uint8_t *header_version);
+uint32_t trpc_header_parse(const uint8_t *bytes, size_t len, uint32_t ceiling, uint32_t *frame_type, size_t *total,
+                           size_t *header_size, uint32_t *id, uint8_t *header_version);
 
 /* ---- Cutting a stream into frames ---- */
 
-/* The largest frame, its fixed header included, and so the least size of a deframer's buffer. */
-#define TRPC_MAX_FRAME 65536
-
 /*
- * The error codes of trpc_deframe and trpc_finish. A header that is refused has its code of enum trpc_header_error.
+ * The error codes of trpc_deframe and trpc_finish, beside TRPC_BAD_CEILING. A header that is refused has its code of
+ * enum trpc_header_error.
  *
  * Order of trpc_deframe:
  *
- * 1. TRPC_DEFRAME_BUFFER.
- * 2. TRPC_DEFRAME_STATE.
- * 3. The code of a header that was refused before.
- * 4. The codes 3 to 7 of the header whose 16th byte arrives, rising.
+ * 1. TRPC_BAD_CEILING.
+ * 2. TRPC_DEFRAME_BUFFER.
+ * 3. TRPC_DEFRAME_STATE.
+ * 4. The code of a header that was refused before.
+ * 5. The codes 3 to 7 of the header whose 16th byte arrives, rising.
  *
  * The order of trpc_finish is the same without the last.
  *
- * A state is `held` and `error`. It is known with a buffer if one of these holds:
+ * A state is `held` and `error`. It is known with a buffer and a ceiling if one of these holds:
  *
  * - Under 16 bytes are held, and the error is 0.
  * - 16 bytes or more are held, the error is 0, the first 16 are a good header, and its total is more than are held.
  * - Exactly 16 bytes are held, the error is 3 to 7, and it is the code of these 16 as a header.
+ *
+ * A header is good, or has its code, by the ceiling of this call: a state has none. So under another ceiling than the
+ * last call's a state may not be known, for example inside a frame that is over it.
  */
 enum trpc_deframe_error {
     TRPC_DEFRAME_DONE = 0,
-    TRPC_DEFRAME_BUFFER = 1, /* the buffer is under 65,536 bytes */
+    TRPC_DEFRAME_BUFFER = 1, /* the buffer is shorter than the ceiling */
     TRPC_DEFRAME_STATE = 2   /* the state is not known */
 };
 
@@ -156,50 +188,55 @@ enum trpc_deframe_error {
  * held, error  the state: how many bytes of an unfinished frame are at the start of the buffer, and the code of the
  *              header that ended the stream, 0 for none. Both are 0 when fresh. The caller keeps them, with the buffer,
  *              from call to call.
- * buffer       at least TRPC_MAX_FRAME bytes. Bytes that received nothing are unchanged.
+ * buffer       at least as many bytes as the ceiling. Bytes that received nothing are unchanged. Those past the ceiling
+ *              never receive any, and are not looked at.
+ * ceiling      the connection's ceiling. It stays the same for the whole stream.
  * piece        the bytes that arrived, any number of them, even none.
  * taken        receives how many bytes of the piece were taken. The rest is to be offered again.
  * size         receives the size of a whole frame, or 0 where there is none. The frame is at the start of the buffer
  *              until the next call.
  *
- * Returns 0, or a code of enum trpc_deframe_error or enum trpc_header_error.
+ * Returns 0, TRPC_BAD_CEILING, or a code of enum trpc_deframe_error or enum trpc_header_error.
  *
  * - 0 and *size not 0: a whole frame. Nothing is held.
  * - 0 and *size 0: the piece is used up and more is needed.
  * - 3 to 7: a header is refused. It stays at the start of the buffer, *held is 16 and *error is the code. *taken is how
- *   many bytes of it this call took, and *size is 0. Later calls return the same code, take nothing and leave state and
- *   buffer as they are. Where the next frame starts is not known, so the stream is lost.
- * - 1 and 2: *held, *error and all of the buffer are as they were, *taken and *size are 0.
+ *   many bytes of it this call took, and *size is 0. Later calls under this ceiling return the same code, take nothing
+ *   and leave state and buffer as they are. Where the next frame starts is not known, so the stream is lost.
+ * - 1, 2 and 41: *held, *error and all of the buffer are as they were, *taken and *size are 0.
  *
- *     static uint8_t buffer[TRPC_MAX_FRAME];
+ *     enum { LINE = 4096 }; // the ceiling of the connection: its frames have at most 4,096 bytes
+ *     static uint8_t buffer[LINE];
  *     size_t held = 0, taken, size, at = 0;
  *     uint32_t error = 0, code;
  *
  *     do {
- *         code = trpc_deframe(&held, &error, buffer, sizeof buffer, piece + at, piece_len - at, &taken, &size);
+ *         code = trpc_deframe(&held, &error, buffer, sizeof buffer, LINE, piece + at, piece_len - at, &taken, &size);
  *         at += taken;
  *         if (code == 0 && size != 0)
  *             frame_came(buffer, size);
  *     } while (code == 0 && size != 0);
  */
-uint32_t trpc_deframe(size_t *held, uint32_t *error, uint8_t *buffer, size_t buffer_len, const uint8_t *piece,
-                      size_t piece_len, size_t *taken, size_t *size);
+uint32_t trpc_deframe(size_t *held, uint32_t *error, uint8_t *buffer, size_t buffer_len, uint32_t ceiling,
+                      const uint8_t *piece, size_t piece_len, size_t *taken, size_t *size);
 
 /*
  * The end of the stream, if no byte comes after those that the deframer took.
  *
  * held, error, buffer  as trpc_deframe left them.
+ * ceiling              the one that trpc_deframe was given.
  * short_by             receives how many bytes of an unfinished frame are held: 0 is a clean end. After a refusal it
  *                      is 0.
  *
- * Returns 0, or a code of enum trpc_deframe_error or enum trpc_header_error.
+ * Returns 0, TRPC_BAD_CEILING, or a code of enum trpc_deframe_error or enum trpc_header_error.
  *
- *     code = trpc_finish(held, error, buffer, sizeof buffer, &short_by);
+ *     code = trpc_finish(held, error, buffer, sizeof buffer, LINE, &short_by);
  *     if (code == 0 && short_by == 0) {
  *         // the stream ended after a whole frame, or before the first
  *     }
  */
-uint32_t trpc_finish(size_t held, uint32_t error, const uint8_t *buffer, size_t buffer_len, size_t *short_by);
+uint32_t trpc_finish(size_t held, uint32_t error, const uint8_t *buffer, size_t buffer_len, uint32_t ceiling,
+                     size_t *short_by);
 
 /* ---- Records ---- */
 
@@ -360,17 +397,20 @@ struct trpc_row {
 /* ---- Reading a frame ---- */
 
 /*
- * The error codes of the readers. A fixed header that is refused has its code of enum trpc_header_error.
+ * The error codes of the readers, beside TRPC_BAD_CEILING. A fixed header that is refused has its code of enum
+ * trpc_header_error.
  *
  * Order (docs/PROTOCOL.md, "Reading a frame"):
  *
- * 1. TRPC_READ_ROWS.
- * 2. TRPC_READ_KIND for fewer than 16 bytes.
- * 3. The codes 3 to 7 of the fixed header, rising.
- * 4. TRPC_READ_KIND for its other grounds.
- * 5. The fields from left to right. At each place: TRPC_READ_VARINT, TRPC_READ_TAG and TRPC_READ_DEPTH of the tag, then
+ * 1. TRPC_BAD_CEILING.
+ * 2. TRPC_READ_ROWS.
+ * 3. TRPC_READ_KIND for fewer than 16 bytes.
+ * 4. The codes 3 to 7 of the fixed header, rising. A frame whose total is over the ceiling has TRPC_HEADER_TOTAL,
+ *    unless 3 to 5 come first.
+ * 5. TRPC_READ_KIND for its other grounds.
+ * 6. The fields from left to right. At each place: TRPC_READ_VARINT, TRPC_READ_TAG and TRPC_READ_DEPTH of the tag, then
  *    TRPC_READ_VARINT and TRPC_READ_LENGTH of the value, then TRPC_READ_ENTRIES before an entry's inside.
- * 6. TRPC_READ_ATTACHMENT.
+ * 7. TRPC_READ_ATTACHMENT.
  */
 enum trpc_read_error {
     TRPC_READ_DONE = 0,
@@ -387,49 +427,51 @@ enum trpc_read_error {
 /*
  * Each reads a frame as its kind.
  *
- * frame   one whole frame, as trpc_deframe leaves it.
- * rows    at least TRPC_ROW_NUMBERS numbers. The first 256 receive the rows of the map, four numbers each (struct
- *         trpc_row), in order of first appearance. After them come zeros up to 256, for every kind. Numbers past 256
- *         are untouched.
- * record  receives the record. Its values before the call don't matter.
+ * frame    one whole frame, as trpc_deframe leaves it.
+ * ceiling  the connection's ceiling (above).
+ * rows     at least TRPC_ROW_NUMBERS numbers. The first 256 receive the rows of the map, four numbers each (struct
+ *          trpc_row), in order of first appearance. After them come zeros up to 256, for every kind. Numbers past 256
+ *          are untouched.
+ * record   receives the record. Its values before the call don't matter.
  *
- * Returns 0, or a code of enum trpc_read_error or enum trpc_header_error. After a refusal all of the record is 0. The
- * codes 10 to 15 leave the first 256 row numbers 0. All other codes leave the rows untouched.
+ * Returns 0, TRPC_BAD_CEILING, or a code of enum trpc_read_error or enum trpc_header_error. After a refusal all of the
+ * record is 0. The codes 10 to 15 leave the first 256 row numbers 0. All other codes leave the rows untouched.
  *
  *     struct trpc_request request;
  *     uint32_t rows[TRPC_ROW_NUMBERS];
  *
- *     if (trpc_read_request(frame, frame_len, rows, TRPC_ROW_NUMBERS, &request) == TRPC_READ_DONE) {
+ *     if (trpc_read_request(frame, frame_len, ceiling, rows, TRPC_ROW_NUMBERS, &request) == TRPC_READ_DONE) {
  *         // the function's name is request.func.len bytes at frame + request.func.start
  *         // the first row's key is rows[1] bytes at frame + rows[0], if request.rows is not 0
  *     }
  */
-uint32_t trpc_read_request(const uint8_t *frame, size_t frame_len, uint32_t *rows, size_t rows_len,
+uint32_t trpc_read_request(const uint8_t *frame, size_t frame_len, uint32_t ceiling, uint32_t *rows, size_t rows_len,
                            struct trpc_request *record);
-uint32_t trpc_read_response(const uint8_t *frame, size_t frame_len, uint32_t *rows, size_t rows_len,
+uint32_t trpc_read_response(const uint8_t *frame, size_t frame_len, uint32_t ceiling, uint32_t *rows, size_t rows_len,
                             struct trpc_response *record);
-uint32_t trpc_read_init(const uint8_t *frame, size_t frame_len, uint32_t *rows, size_t rows_len,
+uint32_t trpc_read_init(const uint8_t *frame, size_t frame_len, uint32_t ceiling, uint32_t *rows, size_t rows_len,
                         struct trpc_init *record);
-uint32_t trpc_read_data(const uint8_t *frame, size_t frame_len, uint32_t *rows, size_t rows_len,
+uint32_t trpc_read_data(const uint8_t *frame, size_t frame_len, uint32_t ceiling, uint32_t *rows, size_t rows_len,
                         struct trpc_data *record);
-uint32_t trpc_read_feedback(const uint8_t *frame, size_t frame_len, uint32_t *rows, size_t rows_len,
+uint32_t trpc_read_feedback(const uint8_t *frame, size_t frame_len, uint32_t ceiling, uint32_t *rows, size_t rows_len,
                             struct trpc_feedback *record);
-uint32_t trpc_read_close(const uint8_t *frame, size_t frame_len, uint32_t *rows, size_t rows_len,
+uint32_t trpc_read_close(const uint8_t *frame, size_t frame_len, uint32_t ceiling, uint32_t *rows, size_t rows_len,
                          struct trpc_close *record);
 
 /* ---- Writing a frame ---- */
 
 /*
- * The error codes of the writers.
+ * The error codes of the writers, beside TRPC_BAD_CEILING.
  *
  * Order (docs/PROTOCOL.md, "Writing a frame"):
  *
- * 1. TRPC_WRITE_ROWS for over 64 rows, rows with Feedback or Data, and too few row numbers.
- * 2. TRPC_WRITE_SOURCE.
- * 3. TRPC_WRITE_ROWS for its other grounds.
- * 4. TRPC_WRITE_BODY.
- * 5. TRPC_WRITE_FRAME.
- * 6. TRPC_WRITE_OUTPUT.
+ * 1. TRPC_BAD_CEILING.
+ * 2. TRPC_WRITE_ROWS for over 64 rows, rows with Feedback or Data, and too few row numbers.
+ * 3. TRPC_WRITE_SOURCE.
+ * 4. TRPC_WRITE_ROWS for its other grounds.
+ * 5. TRPC_WRITE_BODY.
+ * 6. TRPC_WRITE_FRAME.
+ * 7. TRPC_WRITE_OUTPUT.
  */
 enum trpc_write_error {
     TRPC_WRITE_DONE = 0,
@@ -437,7 +479,7 @@ enum trpc_write_error {
     TRPC_WRITE_SOURCE = 17, /* a start plus length passes the end of the source bytes, empty fields too */
     TRPC_WRITE_ROWS = 18,   /* over 64 rows, rows with Feedback or Data, too few row numbers for them, equal keys, or a
                                meta part of Init marked absent and not all zero, empty and rowless */
-    TRPC_WRITE_FRAME = 19,  /* the frame is over 65,536 bytes */
+    TRPC_WRITE_FRAME = 19,  /* the frame is over the ceiling */
     TRPC_WRITE_OUTPUT = 27  /* the output is shorter than the frame */
 };
 
@@ -446,15 +488,16 @@ enum trpc_write_error {
  * in the given order. Numbers that are 0 and byte fields that are empty are left out. Byte 15 of the frame is the
  * record's header_version, byte 16 is 0.
  *
- * record  the record. Header, body and attachment in it are not looked at, nor are `zero` and `unused`.
- * source  the bytes that the starts of the record and of its rows count from.
- * rows    four numbers for each of the record's rows (struct trpc_row). Numbers after those are not looked at.
- * body    the frame's body. Of a request or response its last attachment_size bytes are the attachment.
- * out     receives the frame. Bytes past the frame stay as they were. After a refusal all bytes do. TRPC_MAX_FRAME
- *         bytes are always enough.
- * size    receives the frame's size. It is 0 after a refusal.
+ * record   the record. Header, body and attachment in it are not looked at, nor are `zero` and `unused`.
+ * source   the bytes that the starts of the record and of its rows count from.
+ * rows     four numbers for each of the record's rows (struct trpc_row). Numbers after those are not looked at.
+ * body     the frame's body. Of a request or response its last attachment_size bytes are the attachment.
+ * out      receives the frame. It need only hold the frame, so as many bytes as the ceiling are always enough. Bytes
+ *          past the frame stay as they were. After a refusal all bytes do.
+ * ceiling  the connection's ceiling (above).
+ * size     receives the frame's size. It is 0 after a refusal.
  *
- * Returns a code of enum trpc_write_error.
+ * Returns a code of enum trpc_write_error, or TRPC_BAD_CEILING.
  *
  * What was read can be handed to the writer of its kind: the record and the rows, the frame as the source, and the
  * frame's body. It may be refused with TRPC_WRITE_FRAME, since the frame written may be longer than the one read. That
@@ -464,28 +507,29 @@ enum trpc_write_error {
  *     uint8_t out[64];
  *     size_t size;
  *
- *     if (trpc_write_feedback(&feedback, NULL, 0, NULL, 0, NULL, 0, out, sizeof out, &size) == TRPC_WRITE_DONE) {
+ *     code = trpc_write_feedback(&feedback, NULL, 0, NULL, 0, NULL, 0, out, sizeof out, ceiling, &size);
+ *     if (code == TRPC_WRITE_DONE) {
  *         // out has the 19 bytes of the frame, its message is 08 AC 02
  *     }
  */
 uint32_t trpc_write_request(const struct trpc_request *record, const uint8_t *source, size_t source_len,
                             const uint32_t *rows, size_t rows_len, const uint8_t *body, size_t body_len, uint8_t *out,
-                            size_t out_len, size_t *size);
+                            size_t out_len, uint32_t ceiling, size_t *size);
 uint32_t trpc_write_response(const struct trpc_response *record, const uint8_t *source, size_t source_len,
                              const uint32_t *rows, size_t rows_len, const uint8_t *body, size_t body_len, uint8_t *out,
-                             size_t out_len, size_t *size);
+                             size_t out_len, uint32_t ceiling, size_t *size);
 uint32_t trpc_write_init(const struct trpc_init *record, const uint8_t *source, size_t source_len,
                          const uint32_t *rows, size_t rows_len, const uint8_t *body, size_t body_len, uint8_t *out,
-                         size_t out_len, size_t *size);
+                         size_t out_len, uint32_t ceiling, size_t *size);
 uint32_t trpc_write_data(const struct trpc_data *record, const uint8_t *source, size_t source_len,
                          const uint32_t *rows, size_t rows_len, const uint8_t *body, size_t body_len, uint8_t *out,
-                         size_t out_len, size_t *size);
+                         size_t out_len, uint32_t ceiling, size_t *size);
 uint32_t trpc_write_feedback(const struct trpc_feedback *record, const uint8_t *source, size_t source_len,
                              const uint32_t *rows, size_t rows_len, const uint8_t *body, size_t body_len, uint8_t *out,
-                             size_t out_len, size_t *size);
+                             size_t out_len, uint32_t ceiling, size_t *size);
 uint32_t trpc_write_close(const struct trpc_close *record, const uint8_t *source, size_t source_len,
                           const uint32_t *rows, size_t rows_len, const uint8_t *body, size_t body_len, uint8_t *out,
-                          size_t out_len, size_t *size);
+                          size_t out_len, uint32_t ceiling, size_t *size);
 
 /* ---- Waiting jobs ---- */
 

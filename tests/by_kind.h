@@ -27,28 +27,31 @@ struct written_from {
     struct bytes_lent body;
     uint8_t *out;
     size_t out_len;
+    uint32_t ceiling;
 };
 
-static inline uint32_t read_as(uint32_t kind, const uint8_t *frame, size_t len, uint32_t *rows, size_t rows_len, void *record)
+static inline uint32_t read_as(uint32_t kind, struct bytes_lent frame, uint32_t ceiling, uint32_t *rows, size_t rows_len,
+                               void *record)
 {
     switch (kind) {
     case 0:
-        return trpc_read_request(frame, len, rows, rows_len, record);
+        return trpc_read_request(frame.at, frame.len, ceiling, rows, rows_len, record);
     case 1:
-        return trpc_read_response(frame, len, rows, rows_len, record);
+        return trpc_read_response(frame.at, frame.len, ceiling, rows, rows_len, record);
     case 2:
-        return trpc_read_init(frame, len, rows, rows_len, record);
+        return trpc_read_init(frame.at, frame.len, ceiling, rows, rows_len, record);
     case 3:
-        return trpc_read_data(frame, len, rows, rows_len, record);
+        return trpc_read_data(frame.at, frame.len, ceiling, rows, rows_len, record);
     case 4:
-        return trpc_read_feedback(frame, len, rows, rows_len, record);
+        return trpc_read_feedback(frame.at, frame.len, ceiling, rows, rows_len, record);
     default:
-        return trpc_read_close(frame, len, rows, rows_len, record);
+        return trpc_read_close(frame.at, frame.len, ceiling, rows, rows_len, record);
     }
 }
 
 #define WRITE(name)                                                                                                    \
-    trpc_write_##name(record, w.source.at, w.source.len, w.rows.at, w.rows.len, w.body.at, w.body.len, w.out, w.out_len, size)
+    trpc_write_##name(record, w.source.at, w.source.len, w.rows.at, w.rows.len, w.body.at, w.body.len, w.out,          \
+                      w.out_len, w.ceiling, size)
 
 static inline uint32_t write_as(uint32_t kind, const void *record, struct written_from w, size_t *size)
 {

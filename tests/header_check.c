@@ -1,7 +1,7 @@
 /*
  * trpc_header_check and trpc_header_parse, as a C program calls them, against a check that is written here on its own:
- * the headers of document 01's examples with the codes that it gives, every value of every byte of several headers, every
- * pair of values of the last two, and every length from 0 to 40.
+ * the headers of document 01's examples with the codes that it gives, every value of every byte of several headers under
+ * several ceilings, every pair of values of the last two bytes, and every length from 0 to 40.
  */
 #include <stdio.h>
 #include <stdlib.h>
@@ -11,6 +11,9 @@
 
 static unsigned long checks;
 
+/* In range and out of it. */
+static const uint32_t ceilings[] = {0, 15, 16, 17, 19, 20, 4095, 4096, 65535, 65536, 65537, UINT32_MAX};
+
 static uint32_t be32(const uint8_t *bytes)
 {
     return (uint32_t)bytes[0] << 24 | (uint32_t)bytes[1] << 16 | (uint32_t)bytes[2] << 8 | bytes[3];
@@ -18,10 +21,12 @@ static uint32_t be32(const uint8_t *bytes)
 
 /*
  * Document 01, "The 16 bytes" and "Refusal numbers", as one condition after another. By document 02 no condition is about
- * bytes 15 and 16.
+ * bytes 15 and 16, and the ceiling is the first.
  */
-static uint32_t expected(const uint8_t *h, size_t len)
+static uint32_t expected(const uint8_t *h, size_t len, uint32_t ceiling)
 {
+    if (ceiling < 16 || ceiling > 65536)
+        return 41;
     if (len != 16)
         return 9;
 
@@ -33,14 +38,14 @@ static uint32_t expected(const uint8_t *h, size_t len)
     return magic != 0x0930                                         ? 3
            : h[2] > 1                                              ? 4
            : !unary && (h[3] < 1 || h[3] > 4)                      ? 5
-           : total < 16 || total > 65536                           ? 6
+           : total < 16 || total > ceiling                         ? 6
            : (unary ? header_size + 16 > total : header_size != 0) ? 7
                                                                    : 0;
 }
 
-static void fail(const char *what, const uint8_t *bytes, size_t len, uint32_t want, uint32_t got)
+static void fail(const char *what, const uint8_t *bytes, size_t len, uint32_t ceiling, uint32_t want, uint32_t got)
 {
-    fprintf(stderr, "header_check: %s: %zu bytes", what, len);
+    fprintf(stderr, "header_check: %s: ceiling %u, %zu bytes", what, (unsigned)ceiling, len);
     for (size_t i = 0; i < len; i++)
         fprintf(stderr, " %02X", bytes[i]);
     fprintf(stderr, ": expected %u, got %u\n", (unsigned)want, (unsigned)got);
@@ -48,7 +53,7 @@ static void fail(const char *what, const uint8_t *bytes, size_t len, uint32_t wa
 }
 
 /* What a good header says; all zero where it is refused. Nothing beside the version is written. */
-static void check_parse(const uint8_t *bytes, size_t len, uint32_t want)
+static void check_parse(const uint8_t *bytes, size_t len, uint32_t ceiling, uint32_t want)
 {
     static const uint8_t beside[8] = {99, 99, 99, 99, 99, 99, 99, 99};
     struct {
@@ -57,31 +62,38 @@ static void check_parse(const uint8_t *bytes, size_t len, uint32_t want)
     uint32_t type = 99, id = 99;
     size_t total = 99, header_size = 99;
     memset(&lent, 99, sizeof lent);
-    uint32_t got = trpc_header_parse(bytes, len, &type, &total, &header_size, &id, &lent.version);
+    uint32_t got = trpc_header_parse(bytes, len, ceiling, &type, &total, &header_size, &id, &lent.version);
     uint8_t version = lent.version;
     if (got != want)
-        fail("the code of the parser", bytes, len, want, got);
+        fail("the code of the parser", bytes, len, ceiling, want, got);
     if (memcmp(lent.before, beside, sizeof beside) != 0 || memcmp(lent.after, beside, sizeof beside) != 0)
-        fail("a byte beside the version was written", bytes, len, want, got);
+        fail("a byte beside the version was written", bytes, len, ceiling, want, got);
     int right = want != 0 ? type == 0 && total == 0 && header_size == 0 && id == 0 && version == 0
                           : type == (bytes[2] == 0 ? 0u : bytes[3]) && total == be32(bytes + 4) &&
                                 header_size == bytes[8] * 256u + bytes[9] && id == be32(bytes + 10) &&
                                 version == bytes[14];
     if (!right)
-        fail("what the header says", bytes, len, want, got);
+        fail("what the header says", bytes, len, ceiling, want, got);
 }
 
-static void check(const char *what, const uint8_t *bytes, size_t len, uint32_t want)
+static void check(const char *what, const uint8_t *bytes, size_t len, uint32_t ceiling, uint32_t want)
 {
     uint8_t before[64];
     memcpy(before, bytes, len);
-    uint32_t got = trpc_header_check(bytes, len);
+    uint32_t got = trpc_header_check(bytes, len, ceiling);
     if (got != want)
-        fail(what, bytes, len, want, got);
-    check_parse(bytes, len, want);
+        fail(what, bytes, len, ceiling, want, got);
+    check_parse(bytes, len, ceiling, want);
     if (memcmp(before, bytes, len) != 0)
-        fail("the bytes were changed", bytes, len, want, got);
+        fail("the bytes were changed", bytes, len, ceiling, want, got);
     checks++;
+}
+
+/* Under each ceiling, the code that is expected here. */
+static void check_ceilings(const char *what, const uint8_t *bytes, size_t len)
+{
+    for (size_t i = 0; i < sizeof ceilings / sizeof *ceilings; i++)
+        check(what, bytes, len, ceilings[i], expected(bytes, len, ceilings[i]));
 }
 
 struct row {
@@ -92,7 +104,7 @@ struct row {
 
 /*
  * The rows of document 01's "Checked examples" that are about a header, one or more for each other code, and bytes 15 and
- * 16 at values that were refused before document 02.
+ * 16 at values that were refused before document 02. The codes are those under the largest ceiling.
  */
 static const struct row rows[] = {
     {"unary, id 7", {0x09, 0x30, 0, 0, 0, 0, 0, 16, 0, 0, 0, 0, 0, 7, 0, 0}, 0},
@@ -125,8 +137,8 @@ int main(void)
     uint8_t bytes[40];
 
     for (size_t r = 0; r < count; r++) {
-        check(rows[r].what, rows[r].header, 16, rows[r].code);
-        check("the two checks", rows[r].header, 16, expected(rows[r].header, 16));
+        check(rows[r].what, rows[r].header, 16, TRPC_MAX_FRAME, rows[r].code);
+        check_ceilings("the two checks", rows[r].header, 16);
     }
 
     /* every value of every byte of every row */
@@ -135,7 +147,7 @@ int main(void)
             for (unsigned value = 0; value < 256; value++) {
                 memcpy(bytes, rows[r].header, 16);
                 bytes[at] = (uint8_t)value;
-                check("a byte changed", bytes, 16, expected(bytes, 16));
+                check_ceilings("a byte changed", bytes, 16);
             }
 
     /* every pair of values of bytes 15 and 16 of every row: the code stays that of the row */
@@ -144,7 +156,7 @@ int main(void)
             memcpy(bytes, rows[r].header, 14);
             bytes[14] = (uint8_t)(values >> 8);
             bytes[15] = (uint8_t)values;
-            check("bytes 15 and 16", bytes, 16, rows[r].code);
+            check("bytes 15 and 16", bytes, 16, TRPC_MAX_FRAME, rows[r].code);
         }
 
     /* every length, of headers with other bytes after them */
@@ -152,7 +164,7 @@ int main(void)
         for (size_t len = 0; len <= 40; len++) {
             memset(bytes, 0xA5, sizeof bytes);
             memcpy(bytes, rows[r].header, 16);
-            check("a length", bytes, len, expected(bytes, len));
+            check_ceilings("a length", bytes, len);
         }
 
     printf("header_check: %lu checks passed\n", checks);

@@ -49,9 +49,10 @@ static void headers(void)
         uint8_t version = 9;
         size_t total = 9, size = 9;
 
-        expect("trpc_header_check", 0, 1, trpc_header_check(nothing(null), 0) == TRPC_HEADER_LENGTH);
+        expect("trpc_header_check", 0, 1, trpc_header_check(nothing(null), 0, TRPC_MAX_FRAME) == TRPC_HEADER_LENGTH);
         expect("trpc_header_parse", 0, 1,
-               trpc_header_parse(nothing(null), 0, &type, &total, &size, &id, &version) == TRPC_HEADER_LENGTH);
+               trpc_header_parse(nothing(null), 0, TRPC_MAX_FRAME, &type, &total, &size, &id, &version) ==
+                   TRPC_HEADER_LENGTH);
         expect("what a refused header says", 0, 1, type == 0 && total == 0 && size == 0 && id == 0 && version == 0);
     }
 }
@@ -67,12 +68,12 @@ static void deframe(struct deframed *d, unsigned empty, int null)
     static const uint8_t piece[3] = {0x09, 0x30, 1};
     uint8_t *buffer = has(empty, 0) ? nothing(null) : d->buffer;
     const uint8_t *offered = has(empty, 1) ? nothing(null) : piece;
-    size_t room = has(empty, 0) ? 0 : sizeof d->buffer;
+    size_t room = has(empty, 0) ? 0 : sizeof d->buffer, offered_len = has(empty, 1) ? 0 : sizeof piece;
 
     memset(d, GUARD, sizeof *d);
     d->held = d->error = 0;
-    d->code = trpc_deframe(&d->held, &d->error, buffer, room, offered, has(empty, 1) ? 0 : sizeof piece, &d->taken, &d->size);
-    d->end = trpc_finish(d->held, d->error, buffer, room, &d->short_by);
+    d->code = trpc_deframe(&d->held, &d->error, buffer, room, TRPC_MAX_FRAME, offered, offered_len, &d->taken, &d->size);
+    d->end = trpc_finish(d->held, d->error, buffer, room, TRPC_MAX_FRAME, &d->short_by);
 }
 
 static void deframing(void)
@@ -98,13 +99,13 @@ struct reading {
 static void read_one(struct reading *r, uint32_t kind, unsigned empty, int null)
 {
     uint8_t frame[TRPC_HEADER_SIZE];
-    const uint8_t *lent = has(empty, 0) ? nothing(null) : frame;
+    struct bytes_lent lent = {has(empty, 0) ? nothing(null) : frame, has(empty, 0) ? 0 : sizeof frame};
     uint32_t *rows = has(empty, 1) ? nothing(null) : r->rows;
 
     put_header(frame, kind, sizeof frame, 0, 7);
     frame[14] = 3;
     memset(r, GUARD, sizeof *r);
-    r->code = read_as(kind, lent, has(empty, 0) ? 0 : sizeof frame, rows, has(empty, 1) ? 0 : ROW_NUMBERS, r->record);
+    r->code = read_as(kind, lent, TRPC_MAX_FRAME, rows, has(empty, 1) ? 0 : ROW_NUMBERS, r->record);
 }
 
 static void reading(uint32_t kind)
@@ -132,7 +133,8 @@ static void write_one(struct writing *w, uint32_t kind, const uint32_t *record, 
 {
     static const uint8_t bytes[4] = {1, 2, 3, 4};
     static const uint32_t rows[4] = {0, 1, 1, 1};
-    struct written_from from = {{bytes, sizeof bytes}, {rows, 4}, {bytes, sizeof bytes}, w->out, sizeof w->out};
+    const struct bytes_lent lent = {bytes, sizeof bytes};
+    struct written_from from = {lent, {rows, 4}, lent, w->out, sizeof w->out, TRPC_MAX_FRAME};
 
     if (has(empty, 0))
         from.source = (struct bytes_lent){nothing(null), 0};

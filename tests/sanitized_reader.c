@@ -1,19 +1,18 @@
 /*
- * The six readers on damaged frames, each lent buffer exactly as long as it is said to be: once from malloc, under
- * -fsanitize=address,undefined, and, since the archive's own code carries no checks of the sanitizer, once before and
- * once after a page that cannot be touched. The three have to answer the same; what a refusal leaves has to be as
- * document 01 says, and the version of a record is the frame's byte 15.
+ * The six readers on damaged frames, under ceilings in range and out of it, each lent buffer exactly as long as it is said
+ * to be: once from malloc, under -fsanitize=address,undefined, and, since the archive's own code carries no checks of the
+ * sanitizer, once before and once after a page that cannot be touched. The three have to answer the same; what a refusal
+ * leaves has to be as document 01 says, and the version of a record is the frame's byte 15.
  */
 #define _DEFAULT_SOURCE
 #include <stdio.h>
 #include <stdlib.h>
 #include <string.h>
-#include <sys/mman.h>
-#include <unistd.h>
 
 #include "by_kind.h"
+#include "fenced.h"
 
-enum { FRAMES = 200000, CODES = 17, LARGEST = 1 << 16 };
+enum { FRAMES = 200000, LAST_CODE = TRPC_BAD_CEILING, LARGEST = 1 << 16 };
 
 /* ---- Numbers that look random and are the same in each run ---- */
 
@@ -203,23 +202,20 @@ static void make_frame(struct bytes *frame, uint32_t kind)
     }
 }
 
-/* ---- Memory whose ends cannot be passed ---- */
-
-struct fenced {
-    uint8_t *start; /* of the bytes that can be touched */
-    size_t size;
-};
-
-static struct fenced fence(size_t size)
+/* A ceiling: most often the largest, else one around the frame's size, or out of range. */
+static uint32_t any_ceiling(const struct bytes *frame)
 {
-    size_t page = (size_t)sysconf(_SC_PAGESIZE);
-    size = (size + page - 1) / page * page;
-    uint8_t *all = mmap(NULL, size + 2 * page, PROT_NONE, MAP_PRIVATE | MAP_ANONYMOUS, -1, 0);
-    if (all == MAP_FAILED || mprotect(all + page, size, PROT_READ | PROT_WRITE) != 0) {
-        perror("sanitized_reader");
-        exit(1);
+    static const uint32_t others[] = {0, 15, 16, 17, 65535, 65537, UINT32_MAX};
+    uint32_t size = (uint32_t)frame->len;
+
+    switch (below(8)) {
+    case 0:
+        return others[below(7)];
+    case 1:
+        return size - 1 + below(3);
+    default:
+        return TRPC_MAX_FRAME;
     }
-    return (struct fenced){all + page, size};
 }
 
 /* ---- The calls ---- */
@@ -229,14 +225,14 @@ struct lent {
     uint32_t *rows, *record;
 };
 
-static uint32_t answer(uint32_t kind, const struct bytes *frame, struct lent lent, size_t rows)
+static uint32_t answer(uint32_t kind, const struct bytes *frame, uint32_t ceiling, struct lent lent, size_t rows)
 {
     memcpy(lent.frame, frame->at, frame->len);
     for (size_t i = 0; i < rows; i++)
         lent.rows[i] = 0xA5A50000u + (uint32_t)i;
     for (size_t i = 0; i < NUMBERS; i++)
         lent.record[i] = 0x5A5A0000u + (uint32_t)i;
-    return read_as(kind, lent.frame, frame->len, lent.rows, rows, lent.record);
+    return read_as(kind, (struct bytes_lent){lent.frame, frame->len}, ceiling, lent.rows, rows, lent.record);
 }
 
 static void fail(const char *what, uint32_t kind, const struct bytes *frame, uint32_t code)
@@ -262,9 +258,14 @@ static int left_as_said(uint32_t code, struct lent lent, size_t rows)
     return 1;
 }
 
+static int is_code(uint32_t code)
+{
+    return (code >= 3 && code <= 7) || (code >= 9 && code <= 16) || code == TRPC_BAD_CEILING;
+}
+
 /* One frame read as a kind, in three places. Returns the answer. */
-static uint32_t check(uint32_t kind, const struct bytes *frame, size_t rows, struct fenced frames, struct fenced all_rows,
-                      struct fenced records)
+static uint32_t check(uint32_t kind, const struct bytes *frame, uint32_t ceiling, size_t rows, struct fenced frames,
+                      struct fenced all_rows, struct fenced records)
 {
     struct lent exact = {malloc(frame->len), malloc(rows * 4), malloc(NUMBERS * 4)};
     struct lent others[] = {
@@ -272,10 +273,14 @@ static uint32_t check(uint32_t kind, const struct bytes *frame, size_t rows, str
         {frames.start + frames.size - frame->len, (uint32_t *)(all_rows.start + all_rows.size - rows * 4),
          (uint32_t *)(records.start + records.size - NUMBERS * 4)},
     };
-    uint32_t code = answer(kind, frame, exact, rows);
+    uint32_t code = answer(kind, frame, ceiling, exact, rows);
 
-    if (code != 0 && (code < 3 || code == 8 || code >= CODES))
+    if (code != 0 && !is_code(code))
         fail("no such refusal", kind, frame, code);
+    if ((code == TRPC_BAD_CEILING) != (ceiling < TRPC_MIN_CEILING || ceiling > TRPC_MAX_FRAME))
+        fail("the ceiling", kind, frame, code);
+    if (code == 0 && frame->len > ceiling)
+        fail("a frame over the ceiling", kind, frame, code);
     if (code == 0 && exact.record[VERSION_AT] != frame->at[14])
         fail("the version", kind, frame, code);
     if (code != 0 && !left_as_said(code, exact, rows))
@@ -283,7 +288,7 @@ static uint32_t check(uint32_t kind, const struct bytes *frame, size_t rows, str
     if (memcmp(exact.frame, frame->at, frame->len) != 0)
         fail("the frame was changed", kind, frame, code);
     for (int i = 0; i < 2; i++) {
-        uint32_t again = answer(kind, frame, others[i], rows);
+        uint32_t again = answer(kind, frame, ceiling, others[i], rows);
         if (again != code || memcmp(others[i].rows, exact.rows, rows * 4) != 0 ||
             memcmp(others[i].record, exact.record, NUMBERS * 4) != 0 ||
             memcmp(others[i].frame, frame->at, frame->len) != 0)
@@ -300,7 +305,7 @@ int main(void)
     static const size_t row_lengths[] = {0, 1, 255, 257, 300};
     static struct bytes frame;
     struct fenced frames = fence(LARGEST), all_rows = fence(300 * 4), records = fence(NUMBERS * 4);
-    unsigned long codes[CODES] = {0};
+    unsigned long codes[LAST_CODE + 1] = {0};
 
     for (long count = 0; count < FRAMES; count++) {
         uint32_t kind = below(KINDS);
@@ -308,11 +313,11 @@ int main(void)
         if (below(20) == 0)
             kind = below(KINDS);
         size_t rows = below(8) ? ROW_NUMBERS : row_lengths[below(5)];
-        codes[check(kind, &frame, rows, frames, all_rows, records)]++;
+        codes[check(kind, &frame, any_ceiling(&frame), rows, frames, all_rows, records)]++;
     }
 
     printf("sanitized_reader: %d frames, nothing touched outside; answers", (int)FRAMES);
-    for (unsigned code = 0; code < CODES; code++)
+    for (unsigned code = 0; code <= LAST_CODE; code++)
         if (codes[code] > 0)
             printf(" %u:%lu", code, codes[code]);
     printf("\n");

@@ -124,7 +124,7 @@ static uint32_t code;
 
 static void call_check(void)
 {
-    code = trpc_header_check(frame, TRPC_HEADER_SIZE);
+    code = trpc_header_check(frame, TRPC_HEADER_SIZE, TRPC_MAX_FRAME);
 }
 
 static void call_parse(void)
@@ -133,7 +133,7 @@ static void call_parse(void)
     uint8_t version;
     size_t total, size;
 
-    code = trpc_header_parse(frame, TRPC_HEADER_SIZE, &type, &total, &size, &id, &version);
+    code = trpc_header_parse(frame, TRPC_HEADER_SIZE, TRPC_MAX_FRAME, &type, &total, &size, &id, &version);
 }
 
 static size_t cut; /* how much of the frame comes with a call of its own */
@@ -143,28 +143,29 @@ static void call_deframe(void)
     size_t held = 0, taken, size;
     uint32_t error = 0;
 
-    trpc_deframe(&held, &error, out, sizeof out, frame, cut, &taken, &size);
-    code = trpc_deframe(&held, &error, out, sizeof out, frame + cut, frame_len - cut, &taken, &size);
+    trpc_deframe(&held, &error, out, sizeof out, TRPC_MAX_FRAME, frame, cut, &taken, &size);
+    code = trpc_deframe(&held, &error, out, sizeof out, TRPC_MAX_FRAME, frame + cut, frame_len - cut, &taken, &size);
 }
 
 static void call_finish(void)
 {
     size_t short_by;
 
-    code = trpc_finish(0, 0, out, sizeof out, &short_by);
+    code = trpc_finish(0, 0, out, sizeof out, TRPC_MAX_FRAME, &short_by);
 }
 
 static void call_read(void)
 {
-    code = read_as(kind, frame, frame_len, rows, ROW_NUMBERS, record);
+    code = read_as(kind, (struct bytes_lent){frame, frame_len}, TRPC_MAX_FRAME, rows, ROW_NUMBERS, record);
 }
 
 static size_t room, written;
+static uint32_t ceiling; /* of the writers */
 
 static void call_write(void)
 {
     size_t body = kind == 0 || kind == 1 || kind == 3;
-    struct written_from lent = {{frame, sizeof frame}, {rows, ROW_NUMBERS}, {frame, body}, out, room};
+    struct written_from lent = {{frame, sizeof frame}, {rows, ROW_NUMBERS}, {frame, body}, out, room, ceiling};
 
     code = write_as(kind, record, lent, &written);
 }
@@ -228,8 +229,12 @@ int main(void)
         check("readers", &readers, call_read, kind == 3 ? TRPC_READ_DONE : TRPC_READ_DEPTH);
         make_record();
         room = sizeof out;
+        ceiling = TRPC_MAX_FRAME;
         check("writers", &writers, call_write, TRPC_WRITE_DONE);
         room = written; /* no bound fits: the message is measured first */
+        check("writers", &writers, call_write, TRPC_WRITE_DONE);
+        room = sizeof out;
+        ceiling = (uint32_t)written; /* nor does one here */
         check("writers", &writers, call_write, TRPC_WRITE_DONE);
     }
     check("queue", &jobs, call_init, TRPC_QUEUE_DONE);

@@ -34,7 +34,7 @@ struct frame {
 static void write_record(struct frame *frame, uint32_t kind, const uint32_t *record, struct bytes_lent source,
                          struct bytes_lent body)
 {
-    struct written_from lent = {source, {NULL, 0}, body, frame->at, sizeof frame->at};
+    struct written_from lent = {source, {NULL, 0}, body, frame->at, sizeof frame->at, TRPC_MAX_FRAME};
 
     memset(frame, GUARD, sizeof *frame);
     expect("written", kind, record[VERSION_AT], write_as(kind, record, lent, &frame->len) == TRPC_WRITE_DONE);
@@ -58,7 +58,7 @@ static uint32_t read_frame(const uint8_t *frame, size_t len, uint32_t kind, uint
     static uint32_t rows[ROW_NUMBERS];
 
     memset(record, GUARD, NUMBERS * sizeof *record);
-    return read_as(kind, frame, len, rows, ROW_NUMBERS, record);
+    return read_as(kind, (struct bytes_lent){frame, len}, TRPC_MAX_FRAME, rows, ROW_NUMBERS, record);
 }
 
 /* What a frame says that has these bytes 15 and 16: the record given, with this version. Written again, byte 16 is 0. */
@@ -112,9 +112,11 @@ static void members(void)
     size_t size;
 
     memset(&read, GUARD, sizeof read);
-    expect("a close", 5, 200, trpc_write_close(&close, NULL, 0, NULL, 0, NULL, 0, out, sizeof out, &size) == TRPC_WRITE_DONE);
+    expect("a close", 5, 200,
+           trpc_write_close(&close, NULL, 0, NULL, 0, NULL, 0, out, sizeof out, TRPC_MAX_FRAME, &size) == TRPC_WRITE_DONE);
     expect("its bytes 15 and 16", 5, 200, out[14] == 200 && out[15] == 0);
-    expect("a close, read", 5, 200, trpc_read_close(out, size, rows, ROW_NUMBERS, &read) == TRPC_READ_DONE);
+    expect("a close, read", 5, 200,
+           trpc_read_close(out, size, TRPC_MAX_FRAME, rows, ROW_NUMBERS, &read) == TRPC_READ_DONE);
     expect("its version", 5, 200, read.header_version == 200 && read.id == 5 && read.ret == -1);
     expect("its unused bytes", 5, 200, read.unused[0] == 0 && read.unused[1] == 0 && read.unused[2] == 0);
 }
@@ -122,6 +124,16 @@ static void members(void)
 /* ---- States of the deframer ---- */
 
 static uint8_t buffer[TRPC_MAX_FRAME], kept[TRPC_MAX_FRAME];
+
+static uint32_t deframe(size_t *held, uint32_t *error, const uint8_t *piece, size_t len, size_t *taken, size_t *size)
+{
+    return trpc_deframe(held, error, buffer, sizeof buffer, TRPC_MAX_FRAME, piece, len, taken, size);
+}
+
+static uint32_t finish(size_t held, uint32_t error, size_t *short_by)
+{
+    return trpc_finish(held, error, buffer, sizeof buffer, TRPC_MAX_FRAME, short_by);
+}
 
 /* A Data frame's fixed header at the start of the buffer. */
 static void hold_header(uint32_t total, unsigned version, uint8_t byte_16)
@@ -140,12 +152,11 @@ static void refused_state(size_t held, uint32_t error, unsigned version)
 
     memcpy(kept, buffer, sizeof kept);
     expect("deframed with a state that is not known", 3, version,
-           trpc_deframe(&held_after, &error_after, buffer, sizeof buffer, piece, sizeof piece, &taken, &size) ==
-               TRPC_DEFRAME_STATE);
+           deframe(&held_after, &error_after, piece, sizeof piece, &taken, &size) == TRPC_DEFRAME_STATE);
     expect("the state", 3, version, held_after == held && error_after == error);
     expect("nothing is taken", 3, version, taken == 0 && size == 0 && memcmp(buffer, kept, sizeof kept) == 0);
     expect("the end of a state that is not known", 3, version,
-           trpc_finish(held, error, buffer, sizeof buffer, &short_by) == TRPC_DEFRAME_STATE && short_by == 0);
+           finish(held, error, &short_by) == TRPC_DEFRAME_STATE && short_by == 0);
 }
 
 /* The state (20, 0), inside a frame of 24 bytes: it is known, and goes on. */
@@ -156,9 +167,9 @@ static void state_inside(unsigned version)
     uint32_t error = 0;
 
     expect("the end of a state inside a frame", 3, version,
-           trpc_finish(held, error, buffer, sizeof buffer, &short_by) == TRPC_DEFRAME_DONE && short_by == 20);
+           finish(held, error, &short_by) == TRPC_DEFRAME_DONE && short_by == 20);
     expect("deframed from inside a frame", 3, version,
-           trpc_deframe(&held, &error, buffer, sizeof buffer, piece, sizeof piece, &taken, &size) == TRPC_DEFRAME_DONE);
+           deframe(&held, &error, piece, sizeof piece, &taken, &size) == TRPC_DEFRAME_DONE);
     expect("the frame", 3, version, taken == 4 && size == 24 && buffer[14] == version && memcmp(buffer + 20, piece, 4) == 0);
     expect("the state after it", 3, version, held == 0 && error == 0);
 }
@@ -204,8 +215,7 @@ static uint32_t offer(size_t *held, const uint8_t *piece, size_t len, uint32_t f
     for (;; frames++) {
         uint32_t record[NUMBERS], kind = frames % KINDS;
 
-        expect("a piece", kind, 0,
-               trpc_deframe(held, &error, buffer, sizeof buffer, piece, len, &taken, &size) == TRPC_DEFRAME_DONE);
+        expect("a piece", kind, 0, deframe(held, &error, piece, len, &taken, &size) == TRPC_DEFRAME_DONE);
         piece += taken;
         len -= taken;
         if (size == 0)
@@ -224,7 +234,7 @@ static void cut_stream(size_t first, size_t second)
     frames = offer(&held, stream + first, second - first, frames);
     frames = offer(&held, stream + second, stream_len - second, frames);
     expect("all frames", 0, 0, frames == FRAMES);
-    expect("a clean end", 0, 0, trpc_finish(held, 0, buffer, sizeof buffer, &short_by) == TRPC_DEFRAME_DONE && short_by == 0);
+    expect("a clean end", 0, 0, finish(held, 0, &short_by) == TRPC_DEFRAME_DONE && short_by == 0);
 }
 
 int main(void)

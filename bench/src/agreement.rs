@@ -2,10 +2,10 @@
 //! without that, comparing them says nothing.
 
 use crate::entries::{Deframe, HeaderCheck, QueueCalls};
-use crate::frames::{mixed_total, Frames};
+use crate::frames::{mixed_total, small_total, Frames};
 use crate::inputs::{headers, large_requests, responses, small_requests, Input};
 use crate::library::{self, FIELDS, PARTS, RECORD_NUMBERS, VERSION};
-use crate::plain::header::LARGEST;
+use crate::plain::header::{LARGEST, MAX_CEILING};
 use crate::plain::messages::Message;
 use crate::plain::queue::{Job, Queue, CAPACITY};
 use crate::plain::reader::{self, Reading, ROW_NUMBERS};
@@ -15,12 +15,23 @@ use crate::random::Random;
 /// How many damaged versions of each frame are compared.
 const DAMAGED: usize = 50;
 
+/// Ceilings in range and out of it.
+const CEILINGS: [u32; 9] = [0, 15, 16, 64, 4_095, 4_096, MAX_CEILING, MAX_CEILING + 1, u32::MAX];
+
+/// Those, and one to each side of a frame's size.
+fn ceilings(frame: usize) -> impl Iterator<Item = u32> {
+    let size = frame as u32;
+    CEILINGS.into_iter().chain(size - 1..=size + 1)
+}
+
 /// Compares the two on all inputs and on damaged versions of them.
 pub fn check() {
     for header in headers() {
         for length in 0..=header.len() {
             let bytes = &header[..length];
-            assert_eq!(HeaderCheck::LIBRARY.call(bytes), HeaderCheck::RUST.call(bytes));
+            for ceiling in CEILINGS {
+                assert_eq!(HeaderCheck::LIBRARY.call(bytes, ceiling), HeaderCheck::RUST.call(bytes, ceiling));
+            }
         }
     }
     check_messages(&small_requests());
@@ -40,23 +51,23 @@ fn damage(bytes: &mut [u8], random: &mut Random) {
 fn check_messages<M: Message>(inputs: &[Input<M>]) {
     let mut random = Random(11);
     for input in inputs {
-        check_written(input);
+        ceilings(input.frame.len()).for_each(|ceiling| check_written(input, ceiling));
         check_peers(input);
-        check_read::<M>(&input.frame);
+        ceilings(input.frame.len()).for_each(|ceiling| check_read::<M>(&input.frame, ceiling));
         let header = input.frame.len() - input.body.len();
         for _ in 0..DAMAGED {
             let mut frame = input.frame.clone();
             damage(&mut frame[..header], &mut random);
-            check_read::<M>(&frame);
+            ceilings(frame.len()).for_each(|ceiling| check_read::<M>(&frame, ceiling));
         }
     }
 }
 
-fn check_written<M: Message>(i: &Input<M>) {
+fn check_written<M: Message>(i: &Input<M>, ceiling: u32) {
     let mut ours = vec![0x55; LARGEST];
     let mut plain = ours.clone();
-    let size = library::write(M::KIND, &i.numbers, &i.source, &i.rows, &i.body, &mut ours);
-    assert_eq!(size, writer::write(&i.record, &i.source, &i.rows, &i.body, &mut plain));
+    let size = library::write(M::KIND, &i.numbers, &i.source, &i.rows, &i.body, &mut ours, ceiling);
+    assert_eq!(size, writer::write(&i.record, &i.source, &i.rows, &i.body, &mut plain, ceiling));
     assert!(ours == plain, "the frames written differ");
 }
 
@@ -90,11 +101,11 @@ fn check_peers<M: Message>(i: &Input<M>) {
     }
 }
 
-fn check_read<M: Message>(frame: &[u8]) {
+fn check_read<M: Message>(frame: &[u8], ceiling: u32) {
     let mut ours = ([0x55; RECORD_NUMBERS], [0x55; ROW_NUMBERS]);
     let mut rows = [0x55; ROW_NUMBERS];
-    let error = library::read(M::KIND, frame, &mut ours.1, &mut ours.0);
-    let plain = reader::read::<M>(frame, &mut rows);
+    let error = library::read(M::KIND, frame, ceiling, &mut ours.1, &mut ours.0);
+    let plain = reader::read::<M>(frame, ceiling, &mut rows);
     assert_eq!(error, plain.as_ref().err().copied().unwrap_or(0), "reading {frame:x?}");
     assert_eq!(ours, (plain.as_ref().map_or([0; RECORD_NUMBERS], numbers), rows), "reading {frame:x?}");
 }
@@ -126,31 +137,43 @@ struct Cut {
 }
 
 impl Cut {
-    fn call(&mut self, deframe: Deframe, piece: &[u8]) {
+    fn call(&mut self, deframe: Deframe, ceiling: u32, piece: &[u8]) {
         let Cut { held, error, buffer, taken, size, .. } = self;
-        self.answer = deframe.call(held, error, buffer, piece, taken, size);
+        self.answer = deframe.call(held, error, buffer, ceiling, piece, taken, size);
     }
 }
 
-/// Cuts streams into pieces of every size, call by call; each stream but the first has one damaged byte.
+/// Cuts a stream into pieces of many sizes, call by call, until it is refused.
+fn check_stream(stream: &[u8], ceiling: u32, room: usize, random: &mut Random) {
+    let mut ours = Cut { held: 0, error: 0, buffer: vec![0; room], taken: 0, size: 0, answer: 0 };
+    let mut plain = ours.clone();
+    let mut rest = stream;
+    while !rest.is_empty() && ours.answer == 0 {
+        let piece = &rest[..(random.between(0, 3_000) as usize).min(rest.len())];
+        ours.call(Deframe::LIBRARY, ceiling, piece);
+        plain.call(Deframe::RUST, ceiling, piece);
+        assert!(ours == plain, "the answers, the states or the buffers differ");
+        rest = &rest[ours.taken..];
+    }
+}
+
+/// Each stream but the first has one damaged byte. Where the ceiling is smaller, so are the buffer and the frames.
 fn check_cutting() {
     let stream = Frames::new(1 << 18, 2, mixed_total).collect::<Vec<_>>().concat();
+    let small = Frames::new(1 << 16, 2, small_total).collect::<Vec<_>>().concat();
     let mut random = Random(12);
     for round in 0..20 {
-        let mut stream = stream.clone();
+        let (mut stream, mut small) = (stream.clone(), small.clone());
         if round > 0 {
             damage(&mut stream, &mut random);
+            damage(&mut small, &mut random);
         }
-        let mut ours = Cut { held: 0, error: 0, buffer: vec![0; LARGEST], taken: 0, size: 0, answer: 0 };
-        let mut plain = ours.clone();
-        let mut rest = &stream[..];
-        while !rest.is_empty() && ours.error == 0 {
-            let piece = &rest[..(random.between(0, 3_000) as usize).min(rest.len())];
-            ours.call(Deframe::LIBRARY, piece);
-            plain.call(Deframe::RUST, piece);
-            assert!(ours == plain, "the answers, the states or the buffers differ");
-            rest = &rest[ours.taken..];
-        }
+        check_stream(&stream, MAX_CEILING, LARGEST, &mut random);
+        check_stream(&stream, 4_096, 4_096, &mut random);
+        check_stream(&small, 255, 255, &mut random);
+        check_stream(&small, 254, 255, &mut random);
+        check_stream(&small, 255, 254, &mut random);
+        check_stream(&small, MAX_CEILING + 1, LARGEST, &mut random);
     }
 }
 

@@ -5,6 +5,7 @@ use crate::frames::{mixed_total, small_total, Frames};
 use crate::inputs::{headers, large_requests, responses, small_requests, Input, VARIANTS};
 use crate::library::{self, PARTS, RECORD_NUMBERS, VERSION};
 use crate::plain::deframer::{Buffer, Deframer};
+use crate::plain::header::MAX_CEILING;
 use crate::plain::messages::{Message, Request, Response};
 use crate::plain::queue::{Job, Queue, CAPACITY};
 use crate::plain::reader::{self, Reading, ROW_NUMBERS};
@@ -50,11 +51,16 @@ pub fn all() -> Vec<Case> {
     cases
 }
 
+/// The ceiling of every call. It is hidden from the compiler, so that plain Rust is not compiled for this one only.
+fn ceiling() -> u32 {
+    black_box(MAX_CEILING)
+}
+
 fn header_check() -> Case {
     let headers = Rc::new(headers());
     let pass = |check: HeaderCheck| {
-        let headers = headers.clone();
-        move || headers.iter().map(|header| u64::from(check.call(black_box(header)))).sum()
+        let (headers, ceiling) = (headers.clone(), ceiling());
+        move || headers.iter().map(|header| u64::from(check.call(black_box(header), ceiling))).sum()
     };
     Case::new(READING, "check of a fixed header", headers.len())
         .with(OURS, pass(HeaderCheck::LIBRARY))
@@ -112,11 +118,12 @@ fn reading<M: Found + 'static>(name: &str, inputs: Rc<Vec<Input<M>>>) -> Case {
     let mut rows = vec![0; ROW_NUMBERS];
     let mut plain_rows = rows.clone();
     let mut record = [0; RECORD_NUMBERS];
+    let ceiling = ceiling();
     let case = Case::new(READING, name, VARIANTS)
         .with(
             OURS,
             over(&inputs, move |_, input| {
-                let error = library::read(M::KIND, &input.frame, &mut rows, &mut record);
+                let error = library::read(M::KIND, &input.frame, ceiling, &mut rows, &mut record);
                 black_box(&rows);
                 found_in::<M>(error, black_box(&record))
             }),
@@ -124,7 +131,7 @@ fn reading<M: Found + 'static>(name: &str, inputs: Rc<Vec<Input<M>>>) -> Case {
         .with(
             RUST,
             over(&inputs, move |_, input| {
-                let reading = reader::read::<M>(&input.frame, &mut plain_rows);
+                let reading = reader::read::<M>(&input.frame, ceiling, &mut plain_rows);
                 black_box(&plain_rows);
                 found(black_box(reading))
             }),
@@ -165,11 +172,13 @@ fn to_buffer<M: 'static>(
 }
 
 fn writing<M: Found + 'static>(name: &str, inputs: Rc<Vec<Input<M>>>) -> Case {
-    let ours = |_, i: &Input<M>, out: &mut [u8]| {
-        library::write(M::KIND, &i.numbers, &i.source, &i.rows, &i.body, out).expect("a record that can be written")
+    let ceiling = ceiling();
+    let ours = move |_, i: &Input<M>, out: &mut [u8]| {
+        library::write(M::KIND, &i.numbers, &i.source, &i.rows, &i.body, out, ceiling)
+            .expect("a record that can be written")
     };
-    let plain = |_, i: &Input<M>, out: &mut [u8]| {
-        writer::write(&i.record, &i.source, &i.rows, &i.body, out).expect("a record that can be written")
+    let plain = move |_, i: &Input<M>, out: &mut [u8]| {
+        writer::write(&i.record, &i.source, &i.rows, &i.body, out, ceiling).expect("a record that can be written")
     };
     let case =
         Case::new(WRITING, name, VARIANTS).with(OURS, to_buffer(&inputs, ours)).with(RUST, to_buffer(&inputs, plain));
@@ -240,19 +249,20 @@ fn id(buffer: &[u8], size: usize) -> u64 {
 fn cutting(name: &str, total: fn(&mut Random) -> u64, bytes: usize, piece: usize) -> Case {
     let frames: Vec<Vec<u8>> = Frames::new(bytes as u64, 1, total).collect();
     let stream = Rc::new(frames.concat());
+    let ceiling = ceiling();
     let lent = |deframe: Deframe| {
         let stream = stream.clone();
         let (mut held, mut error, mut buffer) = (0, 0, Buffer::page());
         move || {
             cut(&stream, piece, |rest, taken| {
                 let mut size = 0;
-                let code = deframe.call(&mut held, &mut error, &mut buffer.0, rest, taken, &mut size);
+                let code = deframe.call(&mut held, &mut error, &mut buffer.0, ceiling, rest, taken, &mut size);
                 (code, id(&buffer.0, size))
             })
         }
     };
     let own = stream.clone();
-    let mut deframer = Deframer::default();
+    let mut deframer = Deframer::new(ceiling).expect("a ceiling in range");
     Case::new(CUTTING, name, frames.len())
         .bytes(bytes)
         .with(OURS, lent(Deframe::LIBRARY))

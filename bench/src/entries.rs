@@ -12,15 +12,15 @@ use bekurapi_sys as ffi;
 
 /// The check of a fixed header.
 #[derive(Clone, Copy)]
-pub struct HeaderCheck(unsafe extern "C" fn(*const u8, usize) -> Error);
+pub struct HeaderCheck(unsafe extern "C" fn(*const u8, usize, u32) -> Error);
 
 impl HeaderCheck {
     pub const LIBRARY: HeaderCheck = HeaderCheck(ffi::trpc_header_check);
     pub const RUST: HeaderCheck = HeaderCheck(rust::header_check);
 
     #[inline]
-    pub fn call(self, bytes: &[u8]) -> Error {
-        unsafe { self.0(bytes.as_ptr(), bytes.len()) }
+    pub fn call(self, bytes: &[u8], ceiling: u32) -> Error {
+        unsafe { self.0(bytes.as_ptr(), bytes.len(), ceiling) }
     }
 }
 
@@ -28,24 +28,27 @@ impl HeaderCheck {
 #[derive(Clone, Copy)]
 #[rustfmt::skip]
 pub struct Deframe(
-    unsafe extern "C" fn(*mut usize, *mut Error, *mut u8, usize, *const u8, usize, *mut usize, *mut usize) -> Error,
+    unsafe extern "C" fn(*mut usize, *mut Error, *mut u8, usize, u32, *const u8, usize, *mut usize, *mut usize) -> Error,
 );
 
 impl Deframe {
     pub const LIBRARY: Deframe = Deframe(ffi::trpc_deframe);
     pub const RUST: Deframe = Deframe(rust::deframe);
 
+    #[allow(clippy::too_many_arguments, reason = "the signature is the library's")]
     #[inline]
     pub fn call(
         self,
         held: &mut usize,
         error: &mut Error,
         buffer: &mut [u8],
+        ceiling: u32,
         piece: &[u8],
         taken: &mut usize,
         size: &mut usize,
     ) -> Error {
-        unsafe { self.0(held, error, buffer.as_mut_ptr(), buffer.len(), piece.as_ptr(), piece.len(), taken, size) }
+        let (room, len) = (buffer.as_mut_ptr(), buffer.len());
+        unsafe { self.0(held, error, room, len, ceiling, piece.as_ptr(), piece.len(), taken, size) }
     }
 }
 
@@ -97,8 +100,8 @@ mod rust {
     use crate::plain::{deframer, header, Error};
     use std::slice::{from_raw_parts, from_raw_parts_mut};
 
-    pub unsafe extern "C" fn header_check(bytes: *const u8, len: usize) -> Error {
-        header::check(from_raw_parts(bytes, len))
+    pub unsafe extern "C" fn header_check(bytes: *const u8, len: usize, ceiling: u32) -> Error {
+        header::check(from_raw_parts(bytes, len), ceiling)
     }
 
     #[allow(clippy::too_many_arguments, reason = "the signature is the library's")]
@@ -107,13 +110,14 @@ mod rust {
         error: *mut Error,
         buffer: *mut u8,
         buffer_len: usize,
+        ceiling: u32,
         piece: *const u8,
         piece_len: usize,
         taken: *mut usize,
         size: *mut usize,
     ) -> Error {
         let (buffer, piece) = (from_raw_parts_mut(buffer, buffer_len), from_raw_parts(piece, piece_len));
-        deframer::deframe(&mut *held, &mut *error, buffer, piece, &mut *taken, &mut *size)
+        deframer::deframe(&mut *held, &mut *error, buffer, ceiling, piece, &mut *taken, &mut *size)
     }
 
     #[inline]

@@ -2,7 +2,7 @@
 //! protocol version.
 
 use crate::library::{FIELDS, RECORD_NUMBERS, VERSION};
-use crate::plain::header::LARGEST;
+use crate::plain::header::{LARGEST, MAX_CEILING};
 use crate::plain::messages::{Message, Record, Request, Response, Span};
 use crate::plain::writer;
 use crate::random::Random;
@@ -66,8 +66,8 @@ impl Source {
         numbers[VERSION] = header_version.into();
         let body = self.random.bytes(body);
         let mut frame = vec![0; LARGEST];
-        let size =
-            writer::write(&record, &self.bytes, &self.rows, &body, &mut frame).expect("a record that can be written");
+        let size = writer::write(&record, &self.bytes, &self.rows, &body, &mut frame, MAX_CEILING)
+            .expect("a record that can be written");
         frame.truncate(size);
         Input { record, numbers, source: self.bytes, rows: self.rows, body, frame }
     }

@@ -29,9 +29,9 @@ fn entries(kind: u32) -> (ffi::Reader, ffi::Writer) {
 }
 
 #[inline]
-pub fn read(kind: u32, frame: &[u8], rows: &mut [u32], record: &mut Numbers) -> Error {
+pub fn read(kind: u32, frame: &[u8], ceiling: u32, rows: &mut [u32], record: &mut Numbers) -> Error {
     let (read, _) = entries(kind);
-    unsafe { read(frame.as_ptr(), frame.len(), rows.as_mut_ptr(), rows.len(), record) }
+    unsafe { read(frame.as_ptr(), frame.len(), ceiling, rows.as_mut_ptr(), rows.len(), record) }
 }
 
 #[inline]
@@ -42,6 +42,7 @@ pub fn write(
     rows: &[u32],
     body: &[u8],
     out: &mut [u8],
+    ceiling: u32,
 ) -> Result<usize, Error> {
     let (_, write) = entries(kind);
     let mut size = 0;
@@ -56,6 +57,7 @@ pub fn write(
             body.len(),
             out.as_mut_ptr(),
             out.len(),
+            ceiling,
             &mut size,
         )
     };

@@ -1,7 +1,7 @@
 //! The job of `listing` in straightforward Rust, to compare speeds with: a reader with a buffer of 64 KiB, a Vec for the
 //! frame, a buffered writer for the lines.
 
-use bench::plain::header::{FixedHeader, Kind, SIZE};
+use bench::plain::header::{FixedHeader, Kind, LARGEST, SIZE};
 use std::io::{self, BufReader, BufWriter, Read, Write};
 
 /// Reads until the buffer is full or the input ends, and returns how many bytes came.
@@ -42,7 +42,7 @@ fn main() -> io::Result<()> {
             writeln!(out, "end short {count}")?;
             break;
         }
-        let header = match FixedHeader::parse(&bytes) {
+        let header = match FixedHeader::parse(&bytes, LARGEST) {
             Ok(header) => header,
             Err(code) => {
                 writeln!(out, "end refused {code}")?;

@@ -8,6 +8,20 @@ pub const SIZE: usize = 16;
 /// The largest frame.
 pub const LARGEST: usize = 65_536;
 
+/// The largest ceiling of a connection.
+pub const MAX_CEILING: u32 = LARGEST as u32;
+
+/// How many bytes a frame has at most under a ceiling, which may be out of range.
+#[inline]
+pub fn most_bytes(ceiling: u32) -> Result<usize, Error> {
+    let most = ceiling as usize;
+    if (SIZE..=LARGEST).contains(&most) {
+        Ok(most)
+    } else {
+        Err(41)
+    }
+}
+
 #[derive(Clone, Copy, PartialEq, Eq)]
 pub enum Kind {
     Unary,
@@ -27,8 +41,9 @@ pub struct FixedHeader {
 }
 
 impl FixedHeader {
+    /// What a header says of a frame that has at most so many bytes.
     #[inline]
-    pub fn parse(h: &[u8; SIZE]) -> Result<FixedHeader, Error> {
+    pub fn parse(h: &[u8; SIZE], most: usize) -> Result<FixedHeader, Error> {
         let total = u32::from_be_bytes([h[4], h[5], h[6], h[7]]) as usize;
         let header_size = u16::from_be_bytes([h[8], h[9]]) as usize;
         if h[0] != 0x09 || h[1] != 0x30 {
@@ -43,7 +58,7 @@ impl FixedHeader {
             (1, _) => return Err(5),
             _ => return Err(4),
         };
-        if !(SIZE..=LARGEST).contains(&total) {
+        if !(SIZE..=most).contains(&total) {
             return Err(6);
         }
         if header_size > if kind == Kind::Unary { total - SIZE } else { 0 } {
@@ -54,11 +69,12 @@ impl FixedHeader {
     }
 }
 
-/// The error code of a header, 0 for a good one.
+/// The error code of a header under a ceiling, 0 for a good one.
 #[inline]
-pub fn check(bytes: &[u8]) -> Error {
-    match bytes.try_into() {
-        Ok(header) => FixedHeader::parse(header).err().unwrap_or(0),
-        Err(_) => 9,
+pub fn check(bytes: &[u8], ceiling: u32) -> Error {
+    match (most_bytes(ceiling), bytes.try_into()) {
+        (Err(code), _) => code,
+        (Ok(most), Ok(header)) => FixedHeader::parse(header, most).err().unwrap_or(0),
+        (Ok(_), Err(_)) => 9,
     }
 }

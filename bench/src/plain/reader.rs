@@ -1,7 +1,7 @@
 //! Reading a unary frame. The record's byte fields are places in the frame; nothing is copied or allocated.
 
 use super::fields::{Fields, Value};
-use super::header::{FixedHeader, Kind, SIZE};
+use super::header::{most_bytes, FixedHeader, Kind, SIZE};
 use super::messages::{Message, Record, Span};
 use super::Error;
 
@@ -19,9 +19,10 @@ pub struct Reading<M> {
 }
 
 #[inline(never)]
-pub fn read<M: Message>(frame: &[u8], rows: &mut [u32]) -> Result<Reading<M>, Error> {
+pub fn read<M: Message>(frame: &[u8], ceiling: u32, rows: &mut [u32]) -> Result<Reading<M>, Error> {
+    let most = most_bytes(ceiling)?;
     let rows = rows.get_mut(..ROW_NUMBERS).ok_or(16u32)?;
-    let fixed = FixedHeader::parse(frame.first_chunk().ok_or(9u32)?)?;
+    let fixed = FixedHeader::parse(frame.first_chunk().ok_or(9u32)?, most)?;
     if frame.len() != fixed.total || fixed.kind != Kind::Unary {
         return Err(9);
     }

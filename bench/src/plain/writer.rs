@@ -1,6 +1,6 @@
 //! Writing a unary frame: the header message is measured first, then written in place.
 
-use super::header::{LARGEST, SIZE};
+use super::header::{most_bytes, SIZE};
 use super::messages::{Message, Record, Sink, Span};
 use super::reader::MOST_ROWS;
 use super::Error;
@@ -13,7 +13,9 @@ pub fn write<M: Message>(
     rows: &[u32],
     body: &[u8],
     out: &mut [u8],
+    ceiling: u32,
 ) -> Result<usize, Error> {
+    let most = most_bytes(ceiling)?;
     if record.row_count > MOST_ROWS {
         return Err(18);
     }
@@ -25,7 +27,7 @@ pub fn write<M: Message>(
     let mut length = Length(0);
     record.message.fields(&mut length, rows);
     let total = SIZE + length.0 + body.len();
-    if total > LARGEST {
+    if total > most {
         return Err(19);
     }
     let frame = out.get_mut(..total).ok_or(27u32)?;

@@ -1,18 +1,26 @@
 //! A small controller. A gateway's stream arrives in pieces of odd sizes; the frames are cut from it, the requests are read, and
-//! a job is queued for each. Then the jobs are taken, the one that is due first before the others, and each is answered with a
-//! response frame. examples/controller.c of the repository does the same and prints the same.
+//! a job is queued for each. A sensor's line has a ceiling of 4,096 bytes, and its deframer a buffer of as many: a larger frame is
+//! refused. Then the jobs are taken, the one that is due first before the others, and each is answered with a response frame,
+//! under the ceiling of its line. examples/controller.c of the repository does the same and prints the same.
 //!
 //!     cargo run --example controller
 
 use bekurapi::{
-    parse_header, read, to_vec, Deframer, End, Error, Feedback, FrameType, Job, Kind, Message, Queue, Record, Request,
-    Response, TransInfo, HEADER_SIZE,
+    parse_header_within, read_within, to_vec, to_vec_within, Ceiling, Data, Deframer, End, Error, Feedback, FrameType,
+    Job, Kind, Message, Queue, Record, Request, Response, TransInfo, HEADER_SIZE,
 };
 
-/// The number of the connection that the stream comes on.
-const CONNECTION: u32 = 1;
+/// A connection: its number and its ceiling.
+struct Line {
+    connection: u32,
+    ceiling: Ceiling,
+}
 
-/// The protocol version that the gateway names in its fixed headers. Every version is read.
+const GATEWAY: Line = Line { connection: 1, ceiling: Ceiling::MAX };
+const SENSOR: Line = Line { connection: 2, ceiling: Ceiling::new(4_096).unwrap() };
+const LINES: [Line; 2] = [GATEWAY, SENSOR];
+
+/// The protocol version that gateway and sensor name in their fixed headers. Every version is read.
 const VERSION: u8 = 1;
 
 /// A request of the gateway.
@@ -48,14 +56,22 @@ impl Order {
     }
 }
 
-/// A Feedback frame, which is no request, then the orders, then the beginning of a frame that never gets whole.
-fn stream() -> Result<Vec<u8>, Error> {
+/// The gateway: a Feedback frame, which is no request, the orders, the beginning of a frame that never gets whole.
+fn gateway_stream() -> Result<Vec<u8>, Error> {
     let feedback = Feedback { header_version: VERSION, window_size_increment: 300 };
     let mut stream = to_vec(5, &Record::Feedback(feedback), b"")?;
     for order in &ORDERS {
         stream.extend(order.frame()?);
     }
     stream.extend([0x09, 0x30, 0, 0, 0, 0, 0]);
+    Ok(stream)
+}
+
+/// The sensor: a Data frame as large as its line takes, and the fixed header of one that is a byte larger.
+fn sensor_stream() -> Result<Vec<u8>, Error> {
+    let reading = vec![0; SENSOR.ceiling.get() as usize - HEADER_SIZE];
+    let mut stream = to_vec_within(9, &Record::Data(Data { header_version: VERSION }), &reading, SENSOR.ceiling)?;
+    stream.extend([0x09, 0x30, 1, 2, 0, 0, 0x10, 0x01, 0, 0, 0, 0, 0, 9, VERSION, 0]);
     Ok(stream)
 }
 
@@ -73,45 +89,54 @@ fn print_request(message: &Message, request: &Request) {
 }
 
 /// Reads a frame as a request and queues a job for it.
-fn accept(queue: &mut Queue, frame: &[u8], now: u64) {
-    let header = parse_header(&frame[..HEADER_SIZE]).expect("the deframer has found it good");
+fn accept(queue: &mut Queue, line: &Line, frame: &[u8], now: u64) {
+    let header = parse_header_within(&frame[..HEADER_SIZE], line.ceiling).expect("the deframer has found it good");
     print!("frame of {} bytes: ", header.total);
     if header.frame_type != FrameType::Unary {
         return println!("{} of stream {}, no request", header.frame_type, header.id);
     }
-    let message = match read(Kind::Request, frame) {
+    let message = match read_within(Kind::Request, frame, line.ceiling) {
         Ok(message) => message,
         Err(error) => return println!("bad, error {}", error.number()),
     };
     let Record::Request(request) = &message.record else { unreachable!("read as a request") };
     print_request(&message, request);
-    let job = Job { connection: CONNECTION, request: message.id, timeout: request.timeout, arrival: now };
+    let job = Job { connection: line.connection, request: message.id, timeout: request.timeout, arrival: now };
     match queue.add(job) {
         Ok(()) => println!("  queued at {now} ms, {} waiting", queue.len()),
         Err(error) => println!("  not queued, error {}", error.number()),
     }
 }
 
-/// Cuts the frames from a stream that comes in pieces, one each millisecond.
-fn receive(queue: &mut Queue, mut stream: &[u8]) -> Result<End, Error> {
-    let mut deframer = Deframer::new();
-    for (now, size) in (0..).zip([1, 7, 31, 3, 19, 113].into_iter().cycle()) {
+/// Cuts the frames from a stream that comes in pieces of these sizes, one each millisecond.
+fn receive(queue: &mut Queue, line: &Line, mut stream: &[u8], sizes: &[usize]) -> Result<End, Error> {
+    let mut deframer = Deframer::with_ceiling(line.ceiling);
+    for (now, &size) in (0..).zip(sizes.iter().cycle()) {
         if stream.is_empty() {
             break;
         }
         let (mut piece, rest) = stream.split_at(size.min(stream.len()));
         while let Some(frame) = deframer.next_frame(&mut piece)? {
-            accept(queue, frame, now);
+            accept(queue, line, frame, now);
         }
         stream = rest;
     }
     deframer.finish()
 }
 
-/// Answers a job.
+fn print_end(end: Result<End, Error>) {
+    match end {
+        Ok(End::Clean) => println!("the stream ends clean"),
+        Ok(End::Short(held)) => println!("the stream ends short, with {held} bytes held"),
+        Err(error) => println!("the stream is refused with {}", error.number()),
+    }
+}
+
+/// Answers a job, under the ceiling of the line that it came by.
 fn answer(job: Job) -> Result<(), Error> {
+    let line = LINES.iter().find(|line| line.connection == job.connection).expect("a job comes by a line");
     let response = Response { request_id: job.request, ..Response::default() };
-    let frame = to_vec(job.request, &Record::Response(response), b"done")?;
+    let frame = to_vec_within(job.request, &Record::Response(response), b"done", line.ceiling)?;
     print!("request {} is due first; its response:", job.request);
     for byte in frame {
         print!(" {byte:02x}");
@@ -122,11 +147,10 @@ fn answer(job: Job) -> Result<(), Error> {
 
 fn main() -> Result<(), Error> {
     let mut queue = Queue::new();
-    match receive(&mut queue, &stream()?) {
-        Ok(End::Clean) => println!("the stream ends clean"),
-        Ok(End::Short(held)) => println!("the stream ends short, with {held} bytes held"),
-        Err(error) => println!("the stream is refused with {}", error.number()),
-    }
+    print_end(receive(&mut queue, &GATEWAY, &gateway_stream()?, &[1, 7, 31, 3, 19, 113]));
+    println!("the sensor's line has a ceiling of {} bytes", SENSOR.ceiling.get());
+    // The Data frame comes in four pieces, and the header after it in two, 4 bytes and 12.
+    print_end(receive(&mut queue, &SENSOR, &sensor_stream()?, &[1_025]));
     loop {
         match queue.take() {
             Ok(job) => answer(job)?,

@@ -1,10 +1,11 @@
 use std::fmt;
 
+use crate::ceiling::Ceiling;
 use crate::error::{checked, Error};
-use crate::header::MAX_FRAME;
 use bekurapi_sys as ffi;
 
-/// Cuts a stream that arrives in pieces into frames. It owns the buffer of 65,536 bytes in which frames are put together.
+/// Cuts a stream that arrives in pieces into frames. It owns the buffer in which frames are put together, which has as many
+/// bytes as the ceiling: 65,536, or those of [`Deframer::with_ceiling`].
 ///
 /// However the stream is cut into pieces, the frames, the error and the end are those of the whole stream.
 ///
@@ -29,6 +30,7 @@ use bekurapi_sys as ffi;
 pub struct Deframer {
     held: usize,
     error: u32,
+    ceiling: Ceiling,
     buffer: Box<[u8]>,
 }
 
@@ -72,14 +74,39 @@ impl Deframer {
     /// assert!(bekurapi::Deframer::new().held().is_empty());
     /// ```
     pub fn new() -> Deframer {
-        Deframer { held: 0, error: 0, buffer: vec![0; MAX_FRAME].into_boxed_slice() }
+        Deframer::with_ceiling(Ceiling::MAX)
+    }
+
+    /// A deframer for a new stream of a connection with a ceiling. A header whose total is over it has [`Error::Total`].
+    ///
+    /// ```
+    /// use bekurapi::{to_vec, Ceiling, Data, Deframer, Error, Progress, Record};
+    ///
+    /// let mut deframer = Deframer::with_ceiling(Ceiling::new(4_096).unwrap());
+    /// let frame = to_vec(9, &Record::Data(Data::default()), &[0; 5_000]).unwrap();
+    /// assert_eq!(deframer.push(&frame), Progress { taken: 16, frame: Err(Error::Total) });
+    /// ```
+    pub fn with_ceiling(ceiling: Ceiling) -> Deframer {
+        Deframer { held: 0, error: 0, ceiling, buffer: vec![0; ceiling.get() as usize].into_boxed_slice() }
+    }
+
+    /// The ceiling of the connection.
+    ///
+    /// ```
+    /// use bekurapi::{Ceiling, Deframer};
+    ///
+    /// assert_eq!(Deframer::new().ceiling(), Ceiling::MAX);
+    /// ```
+    pub fn ceiling(&self) -> Ceiling {
+        self.ceiling
     }
 
     /// Takes bytes from a piece until a frame is whole, a header is refused or the piece ends. What was not taken is to be
     /// pushed again; [`Deframer::next_frame`] sees to that.
     ///
-    /// A header is judged when its 16th byte arrives. Its errors are those of [`header_check`](crate::header_check) from
-    /// [`Error::Magic`] on, and they are the stream's end: each later call gives the same error and takes nothing.
+    /// A header is judged when its 16th byte arrives. Its errors are those of
+    /// [`header_check_within`](crate::header_check_within) with this deframer's ceiling, from [`Error::Magic`] on, and they are
+    /// the stream's end: each later call gives the same error and takes nothing.
     ///
     /// ```
     /// use bekurapi::{to_vec, Data, Deframer, Record};
@@ -105,6 +132,7 @@ impl Deframer {
                 &mut self.error,
                 self.buffer.as_mut_ptr(),
                 self.buffer.len(),
+                self.ceiling.get(),
                 piece.as_ptr(),
                 piece.len(),
                 &mut taken,
@@ -151,8 +179,16 @@ impl Deframer {
         let mut short_by = 0;
         // SAFETY: the pointer and the length are those of the buffer, which the function only reads; `short_by` is a local
         // that only it writes.
-        let code =
-            unsafe { ffi::trpc_finish(self.held, self.error, self.buffer.as_ptr(), self.buffer.len(), &mut short_by) };
+        let code = unsafe {
+            ffi::trpc_finish(
+                self.held,
+                self.error,
+                self.buffer.as_ptr(),
+                self.buffer.len(),
+                self.ceiling.get(),
+                &mut short_by,
+            )
+        };
         checked(code)?;
         Ok(if short_by == 0 { End::Clean } else { End::Short(short_by) })
     }
@@ -168,7 +204,7 @@ impl Deframer {
         &self.buffer[..self.held]
     }
 
-    /// Makes the deframer one for a new stream. The buffer is kept.
+    /// Makes the deframer one for a new stream. The buffer is kept, and so is the ceiling.
     ///
     /// ```
     /// use bekurapi::{Deframer, End};
@@ -192,7 +228,9 @@ impl Default for Deframer {
 
 impl fmt::Debug for Deframer {
     fn fmt(&self, f: &mut fmt::Formatter<'_>) -> fmt::Result {
-        f.debug_struct("Deframer").field("held", &self.held).field("error", &self.error).finish_non_exhaustive()
+        let Deframer { held, error, ceiling, .. } = self;
+        let mut shown = f.debug_struct("Deframer");
+        shown.field("held", held).field("error", error).field("ceiling", ceiling).finish_non_exhaustive()
     }
 }
 
@@ -219,6 +257,50 @@ mod tests {
             assert_eq!(deframer.push(piece), unknown);
             assert_eq!((deframer.held, deframer.error), (before.held, before.error));
             assert!(deframer.buffer == before.buffer);
+        }
+    }
+
+    /// A state is judged by the ceiling of the call. Inside a frame of 24 bytes it is known from 24 on, and after the refusal of
+    /// that total below 24.
+    #[test]
+    fn a_state_under_another_ceiling() {
+        for bytes in [16, 20, 23, 24, 25, 65_536] {
+            let ceiling = Ceiling::new(bytes).unwrap();
+            let inside = Deframer { ceiling, ..in_state(20, 0, &HEADER) };
+            let refused = Deframer { ceiling, ..in_state(16, Error::Total.number(), &HEADER) };
+            if bytes < 24 {
+                assert_eq!(refused.finish(), Err(Error::Total));
+                is_not_known(inside);
+            } else {
+                assert_eq!(inside.finish(), Ok(End::Short(20)));
+                is_not_known(refused);
+            }
+        }
+    }
+
+    /// The buffer has as many bytes as the ceiling. In a longer one those past the ceiling stay as they are.
+    #[test]
+    fn bytes_past_the_ceiling_are_untouched() {
+        for total in [24u8, 25, 255] {
+            let ceiling = Ceiling::new(total.into()).unwrap();
+            let room = usize::from(total);
+            assert_eq!(Deframer::with_ceiling(ceiling).buffer.len(), room);
+            let mut header = HEADER;
+            header[7] = total;
+            let stream = [&header[..], &vec![0x77; room - 16]].concat().repeat(3);
+            for size in 1..=stream.len() {
+                let buffer = vec![0xee; room + 64].into_boxed_slice();
+                let mut deframer = Deframer { buffer, ..Deframer::with_ceiling(ceiling) };
+                let mut frames = 0;
+                for mut piece in stream.chunks(size) {
+                    while let Some(frame) = deframer.next_frame(&mut piece).unwrap() {
+                        assert_eq!(frame, &stream[..room]);
+                        frames += 1;
+                    }
+                }
+                assert_eq!((frames, deframer.finish()), (3, Ok(End::Clean)));
+                assert!(deframer.buffer[room..].iter().all(|&byte| byte == 0xee));
+            }
         }
     }
 

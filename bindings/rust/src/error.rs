@@ -13,12 +13,13 @@ use std::fmt;
 /// ```
 ///
 /// Some numbers cannot come through these bindings, whose types rule out their grounds: [`Error::BufferTooSmall`],
-/// [`Error::UnknownState`], [`Error::RowSlice`], [`Error::Span`] and [`Error::QueueInvalid`].
+/// [`Error::UnknownState`], [`Error::RowSlice`], [`Error::Span`] and [`Error::QueueInvalid`]. [`Error::BadCeiling`] comes only
+/// where a [`Ceiling`](crate::Ceiling) is made of a number.
 #[derive(Clone, Copy, Debug, PartialEq, Eq, Hash)]
 #[non_exhaustive]
 #[repr(u32)]
 pub enum Error {
-    /// Deframer, end: the buffer is under 65,536 bytes.
+    /// Deframer, end: the buffer is shorter than the ceiling.
     BufferTooSmall = 1,
     /// Deframer, end: the state is not known.
     UnknownState = 2,
@@ -28,7 +29,7 @@ pub enum Error {
     DataType = 4,
     /// Header: stream type. Byte 4 of a stream frame is not 1 to 4.
     StreamType = 5,
-    /// Header: total. Bytes 5-8 are not 16 to 65,536.
+    /// Header: total. Bytes 5-8 are not 16 to the ceiling.
     Total = 6,
     /// Header: header size. Bytes 9-10 are more than the total less 16 (unary), or not 0 (stream).
     HeaderSize = 7,
@@ -52,7 +53,7 @@ pub enum Error {
     Span = 17,
     /// Writer: over 64 rows, or equal keys.
     Rows = 18,
-    /// Writer: the frame is over 65,536 bytes.
+    /// Writer: the frame is over the ceiling.
     FrameSize = 19,
     /// Add: 64 jobs wait.
     QueueFull = 21,
@@ -68,6 +69,8 @@ pub enum Error {
     Absent = 26,
     /// Writer: the output is shorter than the frame.
     OutputTooShort = 27,
+    /// Header, deframer, end, reader, writer: the ceiling is not 16 to 65,536.
+    BadCeiling = 41,
 }
 
 impl Error {
@@ -78,7 +81,7 @@ impl Error {
     ///
     /// assert!(Error::ALL.iter().all(|&error| Error::from_number(error.number()) == Some(error)));
     /// ```
-    pub const ALL: [Error; 25] = [
+    pub const ALL: [Error; 26] = [
         Error::BufferTooSmall,
         Error::UnknownState,
         Error::Magic,
@@ -104,6 +107,7 @@ impl Error {
         Error::Duplicate,
         Error::Absent,
         Error::OutputTooShort,
+        Error::BadCeiling,
     ];
 
     /// Numbers that once were an error's and are never used again. 8 was a fixed header whose bytes 15-16 are not both 0, 20 a
@@ -125,7 +129,7 @@ impl Error {
         self as u32
     }
 
-    /// The error with a number. 0 is none, and so is a number above 27 or one of [`Error::RETIRED`].
+    /// The error with a number. 0 is none, and so is every other number that [`Error::ALL`] does not have.
     ///
     /// ```
     /// use bekurapi::Error;
@@ -144,7 +148,7 @@ impl Error {
     /// ```
     pub const fn words(self) -> &'static str {
         match self {
-            Error::BufferTooSmall => "buffer under 65,536 bytes",
+            Error::BufferTooSmall => "buffer shorter than the ceiling",
             Error::UnknownState => "state not known",
             Error::Magic => "magic",
             Error::DataType => "data type",
@@ -164,7 +168,7 @@ impl Error {
                 "over 64 rows, rows with Feedback or Data, row slice too short for them, equal keys, \
                  or a meta part marked absent and not all zero, empty and rowless"
             }
-            Error::FrameSize => "frame over 65,536",
+            Error::FrameSize => "frame over the ceiling",
             Error::QueueFull => "64 jobs wait",
             Error::Arrival => "arrival above 2^62",
             Error::QueueEmpty => "nothing waits",
@@ -172,6 +176,7 @@ impl Error {
             Error::Duplicate => "that pair waits already",
             Error::Absent => "that pair doesn't wait",
             Error::OutputTooShort => "output shorter than the frame",
+            Error::BadCeiling => "ceiling outside 16 to 65,536",
         }
     }
 }
@@ -201,8 +206,8 @@ mod tests {
     use super::*;
 
     #[test]
-    fn numbers_rise_from_1_to_27_without_the_retired() {
-        let used = (1..=27).filter(|number| !Error::RETIRED.contains(number));
+    fn numbers_rise_from_1_to_27_without_the_retired_and_then_is_41() {
+        let used = (1..=27).filter(|number| !Error::RETIRED.contains(number)).chain([41]);
         assert!(Error::ALL.iter().map(|error| error.number()).eq(used));
     }
 

@@ -1,5 +1,6 @@
 use std::fmt;
 
+use crate::ceiling::Ceiling;
 use crate::error::{checked, Error};
 use crate::record::Kind;
 use bekurapi_sys as ffi;
@@ -43,8 +44,23 @@ pub const MAX_FRAME: usize = 65_536;
 /// assert_eq!(header_check(&header), Err(Error::Total));
 /// ```
 pub fn header_check(bytes: &[u8]) -> Result<(), Error> {
+    header_check_within(bytes, Ceiling::MAX)
+}
+
+/// As [`header_check`], for a connection with a ceiling: [`Error::Total`] is a total that is not 16 to the ceiling.
+///
+/// ```
+/// use bekurapi::{header_check, header_check_within, Ceiling, Error};
+///
+/// // A unary frame of 5,000 bytes with the request id 7.
+/// let header = [0x09, 0x30, 0, 0, 0, 0, 0x13, 0x88, 0, 0, 0, 0, 0, 7, 0, 0];
+/// assert_eq!(header_check(&header), Ok(()));
+/// assert_eq!(header_check_within(&header, Ceiling::new(5_000).unwrap()), Ok(()));
+/// assert_eq!(header_check_within(&header, Ceiling::new(4_999).unwrap()), Err(Error::Total));
+/// ```
+pub fn header_check_within(bytes: &[u8], ceiling: Ceiling) -> Result<(), Error> {
     // SAFETY: the pointer and the length are those of a slice, which the function only reads.
-    checked(unsafe { ffi::trpc_header_check(bytes.as_ptr(), bytes.len()) })
+    checked(unsafe { ffi::trpc_header_check(bytes.as_ptr(), bytes.len(), ceiling.get()) })
 }
 
 /// What a fixed header says a frame is.
@@ -152,6 +168,19 @@ pub struct FixedHeader {
 /// # Ok::<(), bekurapi::Error>(())
 /// ```
 pub fn parse_header(bytes: &[u8]) -> Result<FixedHeader, Error> {
+    parse_header_within(bytes, Ceiling::MAX)
+}
+
+/// As [`parse_header`], for a connection with a ceiling. The errors are those of [`header_check_within`].
+///
+/// ```
+/// use bekurapi::{parse_header_within, Ceiling, Error};
+///
+/// let header = b"\x09\x30\x01\x03\0\0\0\x13\0\0\0\0\0\x05\x01\0";
+/// assert_eq!(parse_header_within(header, Ceiling::new(19).unwrap()).unwrap().total, 19);
+/// assert_eq!(parse_header_within(header, Ceiling::new(18).unwrap()), Err(Error::Total));
+/// ```
+pub fn parse_header_within(bytes: &[u8], ceiling: Ceiling) -> Result<FixedHeader, Error> {
     let (mut frame_type, mut total, mut header_size, mut id, mut version) = (0, 0, 0, 0, 0);
     // SAFETY: the pointer and the length are those of a slice, which the function only reads; the numbers are locals that
     // only it writes.
@@ -159,6 +188,7 @@ pub fn parse_header(bytes: &[u8]) -> Result<FixedHeader, Error> {
         ffi::trpc_header_parse(
             bytes.as_ptr(),
             bytes.len(),
+            ceiling.get(),
             &mut frame_type,
             &mut total,
             &mut header_size,

@@ -36,9 +36,12 @@
 //! assert_eq!(read(Kind::Response, &frame)?.body, b"packed");
 //! # Ok::<(), bekurapi::Error>(())
 //! ```
+//!
+//! A frame has at most 65,536 bytes. A connection whose frames are to be smaller has a [`Ceiling`] of its own.
 
 #![deny(missing_docs)]
 
+mod ceiling;
 mod deframer;
 mod error;
 mod header;
@@ -49,11 +52,15 @@ mod record;
 mod trans_info;
 mod writer;
 
+pub use ceiling::Ceiling;
 pub use deframer::{Deframer, End, Progress};
 pub use error::Error;
-pub use header::{header_check, parse_header, FixedHeader, FrameType, HEADER_SIZE, MAX_FRAME};
+pub use header::{
+    header_check, header_check_within, parse_header, parse_header_within, FixedHeader, FrameType, HEADER_SIZE,
+    MAX_FRAME,
+};
 pub use queue::{Job, Queue, CAPACITY, LATEST_ARRIVAL};
-pub use reader::{read, Message};
+pub use reader::{read, read_within, Message};
 pub use record::{Close, Data, Feedback, Init, Kind, Record, Request, RequestMeta, Response, ResponseMeta};
 pub use trans_info::TransInfo;
-pub use writer::{to_vec, write};
+pub use writer::{to_vec, to_vec_within, write, write_within};

@@ -1,3 +1,4 @@
+use crate::ceiling::Ceiling;
 use crate::error::{checked, Error};
 use crate::numbers::{Numbers, RECORD_NUMBERS, ROW_NUMBERS};
 use crate::record::{Kind, Record};
@@ -51,12 +52,27 @@ pub struct Message<'a> {
 /// # Ok::<(), bekurapi::Error>(())
 /// ```
 pub fn read(kind: Kind, frame: &[u8]) -> Result<Message<'_>, Error> {
+    read_within(kind, frame, Ceiling::MAX)
+}
+
+/// As [`read`], for a connection with a ceiling: a frame whose total is over it has [`Error::Total`]. A frame that
+/// a [`Deframer`](crate::Deframer) with a smaller ceiling than [`Ceiling::MAX`] gave reads the same with plain [`read`].
+///
+/// ```
+/// use bekurapi::{read_within, Ceiling, Error, Kind};
+///
+/// let frame = *b"\x09\x30\x01\x03\0\0\0\x13\0\0\0\0\0\x05\0\0\x08\xac\x02";
+/// assert_eq!(read_within(Kind::Feedback, &frame, Ceiling::new(19).unwrap())?.id, 5);
+/// assert_eq!(read_within(Kind::Feedback, &frame, Ceiling::new(18).unwrap()), Err(Error::Total));
+/// # Ok::<(), Error>(())
+/// ```
+pub fn read_within(kind: Kind, frame: &[u8], ceiling: Ceiling) -> Result<Message<'_>, Error> {
     let mut rows = [0; ROW_NUMBERS];
     let mut record = [0; RECORD_NUMBERS];
     let read = reader(kind);
     // SAFETY: each pointer with a length is a slice's or an array's, and a record has 25 numbers. The frame is only read; the
     // arrays are locals that only the function writes.
-    let code = unsafe { read(frame.as_ptr(), frame.len(), rows.as_mut_ptr(), rows.len(), &mut record) };
+    let code = unsafe { read(frame.as_ptr(), frame.len(), ceiling.get(), rows.as_mut_ptr(), rows.len(), &mut record) };
     checked(code)?;
     let mut numbers = Numbers::new(frame, record, rows);
     Ok(Message {

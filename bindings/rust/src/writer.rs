@@ -1,5 +1,6 @@
+use crate::ceiling::Ceiling;
 use crate::error::{checked, Error};
-use crate::header::{HEADER_SIZE, MAX_FRAME};
+use crate::header::HEADER_SIZE;
 use crate::numbers::Source;
 use crate::record::{Kind, Record};
 use bekurapi_sys as ffi;
@@ -27,7 +28,28 @@ const MOST_ROWS: usize = 64;
 /// assert_eq!(write(5, &feedback, b"", &mut out[..18]), Err(Error::OutputTooShort));
 /// ```
 pub fn write(id: u32, record: &Record<'_>, body: &[u8], out: &mut [u8]) -> Result<usize, Error> {
-    write_source(record, &Source::new(id, record), body, out)
+    write_within(id, record, body, out, Ceiling::MAX)
+}
+
+/// As [`write()`], for a connection with a ceiling: a frame over it has [`Error::FrameSize`]. The output need only hold the
+/// frame.
+///
+/// ```
+/// use bekurapi::{write_within, Ceiling, Error, Feedback, Record};
+///
+/// let feedback = Record::Feedback(Feedback { header_version: 1, window_size_increment: 300 });
+/// let mut out = [0; 19];
+/// assert_eq!(write_within(5, &feedback, b"", &mut out, Ceiling::MAX), Ok(19));
+/// assert_eq!(write_within(5, &feedback, b"", &mut out, Ceiling::new(18).unwrap()), Err(Error::FrameSize));
+/// ```
+pub fn write_within(
+    id: u32,
+    record: &Record<'_>,
+    body: &[u8],
+    out: &mut [u8],
+    ceiling: Ceiling,
+) -> Result<usize, Error> {
+    write_source(record, &Source::new(id, record), body, out, ceiling)
 }
 
 /// The frame of a record with its id and body. The errors are those of [`write()`], without [`Error::OutputTooShort`].
@@ -43,24 +65,45 @@ pub fn write(id: u32, record: &Record<'_>, body: &[u8], out: &mut [u8]) -> Resul
 /// # Ok::<(), bekurapi::Error>(())
 /// ```
 pub fn to_vec(id: u32, record: &Record<'_>, body: &[u8]) -> Result<Vec<u8>, Error> {
+    to_vec_within(id, record, body, Ceiling::MAX)
+}
+
+/// As [`to_vec`], for a connection with a ceiling. The errors are those of [`write_within`], without
+/// [`Error::OutputTooShort`].
+///
+/// ```
+/// use bekurapi::{to_vec_within, Ceiling, Data, Error, Record};
+///
+/// let data = Record::Data(Data::default());
+/// let sensor = Ceiling::new(20).unwrap();
+/// assert_eq!(to_vec_within(9, &data, b"21.5", sensor).unwrap().len(), 20);
+/// assert_eq!(to_vec_within(9, &data, b"21.53", sensor), Err(Error::FrameSize));
+/// ```
+pub fn to_vec_within(id: u32, record: &Record<'_>, body: &[u8], ceiling: Ceiling) -> Result<Vec<u8>, Error> {
     let source = Source::new(id, record);
-    let mut out = vec![0; most_bytes(&source, body)];
-    let size = write_source(record, &source, body, &mut out)?;
+    let mut out = vec![0; most_bytes(&source, body, ceiling)];
+    let size = write_source(record, &source, body, &mut out, ceiling)?;
     out.truncate(size);
     Ok(out)
 }
 
 /// No frame of the source and body has more bytes: there are at most 16 fields, a row is three more, and what is written of
-/// a field beside source bytes is a tag of one byte and a varint.
-fn most_bytes(source: &Source, body: &[u8]) -> usize {
+/// a field beside source bytes is a tag of one byte and a varint. Nor is a frame over the ceiling written.
+fn most_bytes(source: &Source, body: &[u8], ceiling: Ceiling) -> usize {
     const FIELD: usize = 1 + 10;
     let rows = source.rows.len() / 4;
     let fields = rows.saturating_mul(3).saturating_add(16).saturating_mul(FIELD);
     let bytes = source.len().saturating_add(body.len());
-    fields.saturating_add(bytes).saturating_add(HEADER_SIZE).min(MAX_FRAME)
+    fields.saturating_add(bytes).saturating_add(HEADER_SIZE).min(ceiling.get() as usize)
 }
 
-fn write_source(record: &Record<'_>, source: &Source, body: &[u8], out: &mut [u8]) -> Result<usize, Error> {
+fn write_source(
+    record: &Record<'_>,
+    source: &Source,
+    body: &[u8],
+    out: &mut [u8],
+    ceiling: Ceiling,
+) -> Result<usize, Error> {
     if u32::try_from(source.len()).is_err() {
         return Err(error_of_too_long(record, body));
     }
@@ -80,6 +123,7 @@ fn write_source(record: &Record<'_>, source: &Source, body: &[u8], out: &mut [u8
             body.len(),
             out.as_mut_ptr(),
             out.len(),
+            ceiling.get(),
             &mut size,
         )
     };
@@ -99,7 +143,7 @@ fn writer(kind: Kind) -> ffi::Writer {
     }
 }
 
-/// The error of a record whose frame is over 65,536 bytes, in the library's order. It serves where byte fields have over 4 GiB
+/// The error of a record whose frame is over every ceiling, in the library's order. It serves where byte fields have over 4 GiB
 /// in all: their starts have no 32-bit number, so the library can't be asked.
 fn error_of_too_long(record: &Record<'_>, body: &[u8]) -> Error {
     let (info, attachment_size, takes_body) = match record {
@@ -122,6 +166,7 @@ fn error_of_too_long(record: &Record<'_>, body: &[u8]) -> Error {
 #[cfg(test)]
 mod tests {
     use super::*;
+    use crate::header::MAX_FRAME;
     use crate::record::{Close, Init, Request, RequestMeta, Response};
     use crate::trans_info::TransInfo;
 

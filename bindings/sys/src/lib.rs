@@ -37,20 +37,27 @@ const _: () = assert!(size_of::<Job>() == 4 * 4 + 8 && size_of::<Queue>() == 64 
 /// other three bytes are 0 where it is read, and not looked at where it is written.
 pub type Numbers = [u32; 25];
 
-/// A reader: frame and length, rows and length, record.
-pub type Reader = unsafe extern "C" fn(*const u8, usize, *mut u32, usize, *mut Numbers) -> u32;
+/// A reader: frame and length, ceiling, rows and length, record.
+pub type Reader = unsafe extern "C" fn(*const u8, usize, u32, *mut u32, usize, *mut Numbers) -> u32;
 
-/// A writer: record, source and length, rows and length, body and length, output and length, size.
+/// A writer: record, source and length, rows and length, body and length, output and length, ceiling, size.
 #[rustfmt::skip]
 pub type Writer = unsafe extern "C" fn(
-    *const Numbers, *const u8, usize, *const u32, usize, *const u8, usize, *mut u8, usize, *mut usize,
+    *const Numbers, *const u8, usize, *const u32, usize, *const u8, usize, *mut u8, usize, u32, *mut usize,
 ) -> u32;
 
 /// Declares readers, each a [`Reader`].
 macro_rules! readers {
     ($($(#[$doc:meta])* $name:ident)*) => { extern "C" { $(
         $(#[$doc])*
-        pub fn $name(frame: *const u8, frame_len: usize, rows: *mut u32, rows_len: usize, record: *mut Numbers) -> u32;
+        pub fn $name(
+            frame: *const u8,
+            frame_len: usize,
+            ceiling: u32,
+            rows: *mut u32,
+            rows_len: usize,
+            record: *mut Numbers,
+        ) -> u32;
     )* } };
 }
 
@@ -68,6 +75,7 @@ macro_rules! writers {
             body_len: usize,
             out: *mut u8,
             out_len: usize,
+            ceiling: u32,
             size: *mut usize,
         ) -> u32;
     )* } };
@@ -105,12 +113,13 @@ writers! {
 
 extern "C" {
     /// Checks a fixed header.
-    pub fn trpc_header_check(bytes: *const u8, len: usize) -> u32;
+    pub fn trpc_header_check(bytes: *const u8, len: usize, ceiling: u32) -> u32;
 
     /// Reads a fixed header.
     pub fn trpc_header_parse(
         bytes: *const u8,
         len: usize,
+        ceiling: u32,
         frame_type: *mut u32,
         total: *mut usize,
         header_size: *mut usize,
@@ -124,6 +133,7 @@ extern "C" {
         error: *mut u32,
         buffer: *mut u8,
         buffer_len: usize,
+        ceiling: u32,
         piece: *const u8,
         piece_len: usize,
         taken: *mut usize,
@@ -131,7 +141,14 @@ extern "C" {
     ) -> u32;
 
     /// The end of the stream.
-    pub fn trpc_finish(held: usize, error: u32, buffer: *const u8, buffer_len: usize, short_by: *mut usize) -> u32;
+    pub fn trpc_finish(
+        held: usize,
+        error: u32,
+        buffer: *const u8,
+        buffer_len: usize,
+        ceiling: u32,
+        short_by: *mut usize,
+    ) -> u32;
 
     /// Makes the queue one in which nothing waits.
     pub fn trpc_queue_init(queue: *mut Queue);

@@ -37,21 +37,21 @@ headerGiven (headers.Good h) = h
 headerGiven (headers.Refused code) = record { «frame_type» = types.Unary; total = 0; «header_size» = 0; id = 0; version = 0 }
 
 -- so a call of `trpc_header_parse` gave the number that is returned and the five that it hands out
-pub record ParsedAs (bytes : List ℕ) (code frame-type total header-size id version : ℕ) : Type 0 where
-  pub code-is : code ≡ parsedError (parsed bytes)
-  pub type-is : frame-type ≡ typeNumber (headerGiven (parsed bytes) .«frame_type»)
-  pub total-is : total ≡ headerGiven (parsed bytes) .total
-  pub header-size-is : header-size ≡ headerGiven (parsed bytes) .«header_size»
-  pub id-is : id ≡ headerGiven (parsed bytes) .id
-  pub version-is : version ≡ headerGiven (parsed bytes) .version
+pub record ParsedAs (c : ℕ) (bytes : List ℕ) (code frame-type total header-size id version : ℕ) : Type 0 where
+  pub code-is : code ≡ parsedError (parsed c bytes)
+  pub type-is : frame-type ≡ typeNumber (headerGiven (parsed c bytes) .«frame_type»)
+  pub total-is : total ≡ headerGiven (parsed c bytes) .total
+  pub header-size-is : header-size ≡ headerGiven (parsed c bytes) .«header_size»
+  pub id-is : id ≡ headerGiven (parsed c bytes) .id
+  pub version-is : version ≡ headerGiven (parsed c bytes) .version
 
 -- "The state is a count of held bytes and a refusal number (0 for none)."
 abbrev pub deframerOf : (held error : ℕ) → Deframer
 deframerOf held error = record { held = held; error = error }
 
 -- what a call of the deframer gives
-abbrev pub deframedFrom : (held error : ℕ) → (buffer piece : List ℕ) → Out
-deframedFrom held error buffer piece = deframed (deframerOf held error) buffer piece
+abbrev pub deframedFrom : (c held error : ℕ) → (buffer piece : List ℕ) → Out
+deframedFrom c held error buffer piece = deframed c (deframerOf held error) buffer piece
 
 -- "The answer is one of three: a whole frame with its size, more is needed, or a refusal"
 abbrev pub progressError : Progress → ℕ
@@ -66,12 +66,13 @@ progressSize (Refused code) = 0
 
 -- "with it come the next state and the count taken": a call of `trpc_deframe` gave the number that is returned, and left state, buffer,
 -- count taken and the frame's size
-pub record DeframedAs (held error : ℕ) (buffer piece : List ℕ) (code held₁ error₁ : ℕ) (buffer₁ : List ℕ) (taken size : ℕ) : Type 0 where
-  pub code-is : code ≡ progressError (deframedFrom held error buffer piece .step .progress)
-  pub size-is : size ≡ progressSize (deframedFrom held error buffer piece .step .progress)
-  pub state-is : deframerOf held₁ error₁ ≡ deframedFrom held error buffer piece .step .next
-  pub taken-is : taken ≡ deframedFrom held error buffer piece .step .taken
-  pub buffer-is : buffer₁ ≡ deframedFrom held error buffer piece .buffer
+pub record DeframedAs (c held error : ℕ) (buffer piece : List ℕ)
+    (code held₁ error₁ : ℕ) (buffer₁ : List ℕ) (taken size : ℕ) : Type 0 where
+  pub code-is : code ≡ progressError (deframedFrom c held error buffer piece .step .progress)
+  pub size-is : size ≡ progressSize (deframedFrom c held error buffer piece .step .progress)
+  pub state-is : deframerOf held₁ error₁ ≡ deframedFrom c held error buffer piece .step .next
+  pub taken-is : taken ≡ deframedFrom c held error buffer piece .step .taken
+  pub buffer-is : buffer₁ ≡ deframedFrom c held error buffer piece .buffer
 
 -- "The end verdict, asked with state and buffer, is clean (nothing held), short with the count held, or the refusal."
 abbrev pub endError : End → ℕ

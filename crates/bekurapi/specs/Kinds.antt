@@ -12,18 +12,18 @@ use Rattle.bekurapi.specs.Numbers.{numbersOf, recordFrom}
 
 -- "the caller of the reader names which of the six kinds it expects": a frame, read as a kind with the row numbers lent, gave the number
 -- that is returned, the row numbers and the 25 numbers of the record.
-pub record ReadAs (kind : Kind) (frame lent : List ℕ) (code : ℕ) (rows numbers : List ℕ) : Type 0 where
-  pub code-is : code ≡ answerError (readFrame kind frame lent .answer)
-  pub rows-are : rows ≡ readFrame kind frame lent .rows
-  pub numbers-are : numbers ≡ numbersOf (spansOf (readFrame kind frame lent) (length frame))
+pub record ReadAs (c : ℕ) (kind : Kind) (frame lent : List ℕ) (code : ℕ) (rows numbers : List ℕ) : Type 0 where
+  pub code-is : code ≡ answerError (readFrame c kind frame lent .answer)
+  pub rows-are : rows ≡ readFrame c kind frame lent .rows
+  pub numbers-are : numbers ≡ numbersOf (spansOf (readFrame c kind frame lent) (length frame))
 
 -- what writing the record of a kind gives that is lent as 25 numbers
-abbrev pub writtenFrom : Kind → (numbers : List ℕ) → (source rows body output : List ℕ) → Writing
-writtenFrom kind numbers source rows body output = written (recordFrom kind numbers) source rows body output
+abbrev pub writtenFrom : (c : ℕ) → Kind → (numbers : List ℕ) → (source rows body output : List ℕ) → Writing
+writtenFrom c kind numbers source rows body output = written c (recordFrom kind numbers) source rows body output
 
 -- "The writer takes a record, the bytes its starts refer to, its rows and a body.": it gave the number that is returned, the frame's size,
 -- and the output as it is afterwards, whole.
-pub record WrittenAs (kind : Kind) (numbers source rows body output : List ℕ) (code size : ℕ) (out : List ℕ) : Type 0 where
-  pub code-is : code ≡ errorOf (writtenFrom kind numbers source rows body output .answer)
-  pub size-is : size ≡ countOf (writtenFrom kind numbers source rows body output .answer)
-  pub output-is : out ≡ writtenFrom kind numbers source rows body output .output
+pub record WrittenAs (c : ℕ) (kind : Kind) (numbers source rows body output : List ℕ) (code size : ℕ) (out : List ℕ) : Type 0 where
+  pub code-is : code ≡ errorOf (writtenFrom c kind numbers source rows body output .answer)
+  pub size-is : size ≡ countOf (writtenFrom c kind numbers source rows body output .answer)
+  pub output-is : out ≡ writtenFrom c kind numbers source rows body output .output

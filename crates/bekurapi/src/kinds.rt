@@ -10,10 +10,16 @@ use schema::Kind;
 use writer::write_slots;
 ghost use Rattle.bekurapi.specs.Kinds.{ReadAs, WrittenAs};
 
-pub(crate) fn read_as(kind: Kind, frame: &[u8], rows: &mut [u32], record: &mut [u32; 25]) -> u32
-    ensures { λ r. ⌜ ReadAs kind (now (frame .entry)) (now (rows .entry)) r (now (rows .exit)) (now («record» .exit)) ⌝ }
+pub(crate) fn read_as(
+    kind: Kind,
+    frame: &[u8],
+    ceiling: u32,
+    rows: &mut [u32],
+    record: &mut [u32; 25],
+) -> u32
+    ensures { λ r. ⌜ ReadAs ceiling kind (now (frame .entry)) (now (rows .entry)) r (now (rows .exit)) (now («record» .exit)) ⌝ }
 {
-    let reading = read_spans(kind, frame, rows);
+    let reading = read_spans(kind, frame, ceiling, rows);
     *record = numbers_of(reading);
     let answer = reading.answer;
     answer_error(answer)
@@ -25,10 +31,11 @@ pub(crate) fn write_as(
     source: &[u8],
     rows: &[u32],
     body: &[u8],
+    ceiling: u32,
     out: &mut [u8],
     size: &mut usize,
 ) -> u32
-    ensures { λ r. ⌜ WrittenAs kind (now («record» .entry)) (now (source .entry)) (now (rows .entry)) (now (body .entry))
+    ensures { λ r. ⌜ WrittenAs ceiling kind (now («record» .entry)) (now (source .entry)) (now (rows .entry)) (now (body .entry))
         (now (out .entry)) r (now (size .exit)) (now (out .exit)) ⌝ }
 {
     let numbers = *record;
@@ -43,6 +50,7 @@ pub(crate) fn write_as(
         rows,
         body,
         out,
+        ceiling,
     );
     *size = encoded_size(encoded);
     encoded_error(encoded)

@@ -5,7 +5,7 @@ use mathlib.Core.List.{List, _++_}
 use mathlib.Core.Bool.{Bool, true, false, not, cond, _&&_}
 use lib.Dec.{eqb, ltb, leb}
 use lib.ListN.{length, take, drop}
-use Rattle.fixed_header.specs.Header.{headerError, totalOf, maxFrame}
+use Rattle.fixed_header.specs.Header.{ceilingOk, headerError, totalOf}
 use Rattle.deframer.specs.declared.Deframer.{Deframer}
 use Rattle.deframer.specs.declared.Step.{Step}
 use Rattle.deframer.specs.declared.Progress.{Progress}
@@ -19,26 +19,30 @@ fresh = record { held = 0; error = 0 }
 
 -- "A state is known if it holds under 16 bytes with number 0; or holds 16 or more with number 0, its first 16 judge good and their
 -- total exceeds the count; or holds exactly 16 that judge to its number, from 3 to 8", of which document 02 takes out 8: "a state that
--- holds 8 is not known"
-unfoldable pub knownOf : Deframer → List ℕ → Bool
-knownOf state buffer =
+-- holds 8 is not known". Judged under the ceiling of the call that asks: a state has none
+unfoldable pub knownOf : (c : ℕ) → Deframer → List ℕ → Bool
+knownOf c state buffer =
     cond (eqb (state .error) 0)
     (cond (ltb (state .held) 16) true
-    (eqb (headerError (take 16 buffer)) 0 && ltb (state .held) (totalOf (take 16 buffer))))
-    (eqb (state .held) 16 && (eqb (headerError (take 16 buffer)) (state .error) && (leb 3 (state .error) && leb (state .error) 7)))
+    (eqb (headerError c (take 16 buffer)) 0 && ltb (state .held) (totalOf (take 16 buffer))))
+    (eqb (state .held) 16 && (eqb (headerError c (take 16 buffer)) (state .error) && (leb 3 (state .error) && leb (state .error) 7)))
 
 -- "behind those held": the stream that a call sees
 abbrev pub stream : ℕ → List ℕ → List ℕ → List ℕ
 stream held buffer piece = take held buffer ++ piece
 
+-- a stream that begins with a frame of `total` bytes: they are all there, or more is needed
+abbrev pub wholeOrMore : (total : ℕ) → List ℕ → Progress
+wholeOrMore total s = cond (leb total (length s)) (Frame total) NeedMore
+
 -- "The answer is one of three: a whole frame with its size, more is needed, or a refusal"; "The header is judged when its 16th byte
 -- arrives, never sooner."
-unfoldable pub nextFrame : List ℕ → Progress
-nextFrame s =
+unfoldable pub nextFrame : (c : ℕ) → List ℕ → Progress
+nextFrame c s =
     cond (ltb (length s) 16) NeedMore
-    (cond (eqb (headerError (take 16 s)) 0)
-    (cond (leb (totalOf (take 16 s)) (length s)) (Frame (totalOf (take 16 s))) NeedMore)
-    (Refused (headerError (take 16 s))))
+    (cond (eqb (headerError c (take 16 s)) 0)
+    (wholeOrMore (totalOf (take 16 s)) s)
+    (Refused (headerError c (take 16 s))))
 
 -- "It takes bytes .. until a frame is whole, a header is refused or the piece ends": how much of the stream is in the buffer then
 abbrev pub reach : Progress → List ℕ → ℕ
@@ -72,30 +76,33 @@ moved progress held buffer s =
       buffer = take (reach progress s) s ++ drop (reach progress s) buffer;
     }
 
-abbrev pub advance : ℕ → List ℕ → List ℕ → Out
-advance held buffer s = moved (nextFrame s) held buffer s
+abbrev pub advance : (c : ℕ) → ℕ → List ℕ → List ℕ → Out
+advance c held buffer s = moved (nextFrame c s) held buffer s
 
--- "later calls repeat the number and take nothing"; "1 and 2 return the state as given and take nothing"
+-- "later calls repeat the number and take nothing"; "1 and 2 return the state as given and take nothing"; document 02, P11: "41 ceiling
+-- outside the range, before all others, with the state as given and nothing taken"
 abbrev pub refuse : ℕ → Deframer → Step
 refuse code state = record { progress = Refused code; next = state; taken = 0 }
 
 abbrev pub unmoved : ℕ → Deframer → List ℕ → Out
 unmoved code state buffer = record { step = refuse code state; buffer = buffer }
 
--- "Cutter 1, 2, a held refusal, then 3 to 8 rising", without 8
-unfoldable pub deframed : Deframer → List ℕ → List ℕ → Out
-deframed state buffer piece =
-    cond (ltb (length buffer) maxFrame) (unmoved 1 state buffer)
-    (cond (not (knownOf state buffer)) (unmoved 2 state buffer)
+-- "Cutter 1, 2, a held refusal, then 3 to 8 rising", without 8 and after 41. "A buffer need only be as long as the ceiling."
+unfoldable pub deframed : (c : ℕ) → Deframer → List ℕ → List ℕ → Out
+deframed c state buffer piece =
+    cond (not (ceilingOk c)) (unmoved 41 state buffer)
+    (cond (ltb (length buffer) c) (unmoved 1 state buffer)
+    (cond (not (knownOf c state buffer)) (unmoved 2 state buffer)
     (cond (not (eqb (state .error) 0)) (unmoved (state .error) state buffer)
-    (advance (state .held) buffer (stream (state .held) buffer piece))))
+    (advance c (state .held) buffer (stream (state .held) buffer piece)))))
 
 -- The codes in the same order. "The end verdict, asked with state and buffer, is clean (nothing held), short with the count held, or the
 -- refusal."
-unfoldable pub ended : Deframer → List ℕ → End
-ended state buffer =
-    cond (ltb (length buffer) maxFrame) (end.Refused 1)
-    (cond (not (knownOf state buffer)) (end.Refused 2)
+unfoldable pub ended : (c : ℕ) → Deframer → List ℕ → End
+ended c state buffer =
+    cond (not (ceilingOk c)) (end.Refused 41)
+    (cond (ltb (length buffer) c) (end.Refused 1)
+    (cond (not (knownOf c state buffer)) (end.Refused 2)
     (cond (not (eqb (state .error) 0)) (end.Refused (state .error))
     (cond (eqb (state .held) 0) end.Clean
-    (end.Short (state .held)))))
+    (end.Short (state .held))))))

@@ -1,4 +1,5 @@
--- Document 01, "Cutting": the uncut reading, of the whole stream at once. It is fed bytes only, nothing of a state or a buffer
+-- Document 01, "Cutting": the uncut reading, of the whole stream at once. It is fed bytes and a ceiling (document 02, P11: "the same
+-- ceiling .. throughout, for the uncut reading too"), nothing of a state or a buffer
 use Prim.Native.Nat.{ℕ, suc, zero}
 use mathlib.Core.Path.{_≡_}
 use mathlib.Core.List.{List, [], _∷_, _++_}
@@ -27,18 +28,18 @@ before frame u = record { frames = frame ∷ u .frames; end = u .end }
 -- number, whatever follows. If their total exceeds what is left, it stops: short with the number left. Otherwise the next bytes, as many
 -- as the total, are a frame, .. and it goes on behind them." At most `fuel` steps: `uncut` has more than it needs, and by `enough` how many
 -- more says nothing, so the clause for no fuel is never reached
-unfoldable pub uncutIn : ℕ → List ℕ → Uncut
-uncutIn zero s = stops Clean
-uncutIn (suc fuel) s =
-    let rest = uncutIn fuel (drop (totalOf (take 16 s)) s) in
+unfoldable pub uncutIn : (c : ℕ) → ℕ → List ℕ → Uncut
+uncutIn c zero s = stops Clean
+uncutIn c (suc fuel) s =
+    let rest = uncutIn c fuel (drop (totalOf (take 16 s)) s) in
     cond (ltb (length s) 16) (stops (cond (eqb (length s) 0) Clean (Short (length s))))
-    (cond (eqb (headerError (take 16 s)) 0)
+    (cond (eqb (headerError c (take 16 s)) 0)
     (cond (leb (totalOf (take 16 s)) (length s)) (before (take (totalOf (take 16 s)) s) rest) (stops (Short (length s))))
-    (stops (Refused (headerError (take 16 s)))))
+    (stops (Refused (headerError c (take 16 s)))))
 
 -- "It starts at the first byte." A frame has 16 bytes or more, so a stream has no more steps than bytes, and one to stop
-unfoldable pub uncut : List ℕ → Uncut
-uncut s = uncutIn (suc (length s)) s
+unfoldable pub uncut : (c : ℕ) → List ℕ → Uncut
+uncut c s = uncutIn c (suc (length s)) s
 
 -- frames laid end to end
 abbrev pub laid : List (List ℕ) → List ℕ

@@ -6,6 +6,7 @@ use copying::copy_to;
 use fixed_header::HEADER;
 use fixed_header::check_header;
 use fixed_header::declared_size;
+use fixed_header::header_good;
 use refusals::STATE_UNKNOWN;
 ghost use mathlib.Core.Path.{_≡_};
 ghost use mathlib.Core.List.{_++_};
@@ -13,8 +14,8 @@ ghost use mathlib.Core.Bool.{cond};
 ghost use Prim.Native.Nat.{_+_, _-_, _≤_, _<_, min};
 ghost use lib.Dec.{ltb};
 ghost use lib.ListN.{length, take, drop};
-ghost use Rattle.fixed_header.specs.Header.{headerError, totalOf, maxFrame};
-ghost use Rattle.deframer.specs.Deframe.{knownOf, stream, advance, refuse, deframed};
+ghost use Rattle.fixed_header.specs.Header.{CeilingOk, headerError, totalOf};
+ghost use Rattle.deframer.specs.Deframe.{knownOf, stream, wholeOrMore, moved, advance, refuse, deframed};
 
 // A refused call: the state as given, nothing taken.
 pub(crate) fn refused(code: u32, state: Deframer) -> Step
@@ -28,16 +29,16 @@ pub(crate) fn refused(code: u32, state: Deframer) -> Step
 }
 
 // The size of the frame that the bytes start with, where its header is good and `held` bytes are not all of it; else 0.
-fn frame_size(bytes: &[u8], held: usize) -> usize
-    ensures { λ r. ⌜ ((r ≡ 0 → ⊥) → (16 ≤ length (now (bytes .entry))) × (headerError (take 16 (now (bytes .entry))) ≡ 0)
+fn frame_size(bytes: &[u8], ceiling: u32, held: usize) -> usize
+    ensures { λ r. ⌜ ((r ≡ 0 → ⊥) → (16 ≤ length (now (bytes .entry))) × (headerError ceiling (take 16 (now (bytes .entry))) ≡ 0)
         × (r ≡ totalOf (take 16 (now (bytes .entry)))) × (held < r)) ⌝ }
     ensures { λ r. ⌜ (16 ≤ held → 16 ≤ length (now (bytes .entry))
-        → knownOf (record { held = held; error = 0 }) (now (bytes .entry)) ≡ ltb 0 r) ⌝ }
+        → knownOf ceiling (record { held = held; error = 0 }) (now (bytes .entry)) ≡ ltb 0 r) ⌝ }
 {
     if bytes.len() < HEADER {
         return 0;
     }
-    if check_header(&bytes[..HEADER]) != 0 {
+    if !header_good(&bytes[..HEADER], ceiling) {
         return 0;
     }
     let total = declared_size(bytes);
@@ -48,9 +49,9 @@ fn frame_size(bytes: &[u8], held: usize) -> usize
 }
 
 // Whether a call can have left this state with this buffer.
-pub(crate) fn known(state: Deframer, buffer: &[u8]) -> bool
-    requires { ⌜ maxFrame ≤ length (now buffer) ⌝ }
-    ensures { λ r. ⌜ r ≡ knownOf state (now (buffer .entry)) ⌝ }
+pub(crate) fn known(state: Deframer, buffer: &[u8], ceiling: u32) -> bool
+    requires { ⌜ CeilingOk ceiling × (ceiling ≤ length (now buffer)) ⌝ }
+    ensures { λ r. ⌜ r ≡ knownOf ceiling state (now (buffer .entry)) ⌝ }
 {
     let held = state.held;
     let error = state.error;
@@ -58,21 +59,21 @@ pub(crate) fn known(state: Deframer, buffer: &[u8]) -> bool
         if held < HEADER {
             return true;
         }
-        return 0 < frame_size(buffer, held);
+        return 0 < frame_size(buffer, ceiling, held);
     }
     if held != HEADER {
         return false;
     }
-    check_header(&buffer[..HEADER]) == error
+    check_header(&buffer[..HEADER], ceiling) == error
 }
 
 // A call after a refused header: its code again, where the state is known.
-pub(crate) fn repeated(state: Deframer, buffer: &[u8]) -> Step
-    requires { ⌜ maxFrame ≤ length (now buffer) ⌝ }
-    ensures { λ r. ⌜ r ≡ refuse (cond (knownOf state (now (buffer .entry))) (state .error) 2) state ⌝ }
+pub(crate) fn repeated(state: Deframer, buffer: &[u8], ceiling: u32) -> Step
+    requires { ⌜ CeilingOk ceiling × (ceiling ≤ length (now buffer)) ⌝ }
+    ensures { λ r. ⌜ r ≡ refuse (cond (knownOf ceiling state (now (buffer .entry))) (state .error) 2) state ⌝ }
 {
     let error = state.error;
-    if known(state, buffer) {
+    if known(state, buffer, ceiling) {
         return refused(error, state);
     }
     refused(STATE_UNKNOWN, state)
@@ -105,14 +106,12 @@ fn fill(buffer: &mut [u8], held: usize, goal: usize, piece: &[u8]) -> usize
 // The rest of a frame of `total` bytes. `old` bytes were held when the call began; those of the piece after them, up to `held`, are in
 // the buffer already.
 fn content(buffer: &mut [u8], old: usize, held: usize, total: usize, piece: &[u8]) -> Step
-    requires { ⌜ (maxFrame ≤ length (now buffer)) × (16 ≤ length (stream held (now buffer) (drop (held - old) (now piece))))
-        × (headerError (take 16 (stream held (now buffer) (drop (held - old) (now piece)))) ≡ 0)
-        × (total ≡ totalOf (take 16 (stream held (now buffer) (drop (held - old) (now piece)))))
-        × (held ≤ total) × (old ≤ held) × (held - old ≤ length (now piece)) ⌝ }
-    ensures { λ r. ⌜ r ≡ advance old (now (buffer .entry)) (stream held (now (buffer .entry)) (drop (held - old) (now (piece .entry))))
-        .step ⌝ }
+    requires { ⌜ (total ≤ length (now buffer)) × (held ≤ total) × (old ≤ held) × (held - old ≤ length (now piece)) ⌝ }
+    ensures { λ r. ⌜ r ≡ moved (wholeOrMore total (stream held (now (buffer .entry)) (drop (held - old) (now (piece .entry)))))
+        old (now (buffer .entry)) (stream held (now (buffer .entry)) (drop (held - old) (now (piece .entry)))) .step ⌝ }
     ensures { λ r. ⌜ now (buffer .exit)
-        ≡ advance old (now (buffer .entry)) (stream held (now (buffer .entry)) (drop (held - old) (now (piece .entry)))) .buffer ⌝ }
+        ≡ moved (wholeOrMore total (stream held (now (buffer .entry)) (drop (held - old) (now (piece .entry)))))
+        old (now (buffer .entry)) (stream held (now (buffer .entry)) (drop (held - old) (now (piece .entry)))) .buffer ⌝ }
 {
     let from = held - old;
     let filled = fill(buffer, held, total, &piece[from..]);
@@ -134,13 +133,13 @@ fn content(buffer: &mut [u8], old: usize, held: usize, total: usize, piece: &[u8
 }
 
 // A frame of which 16 bytes or more are held: their header is checked again, since the state and the buffer are the caller's.
-pub(crate) fn more(state: Deframer, buffer: &mut [u8], piece: &[u8]) -> Step
-    requires { ⌜ (maxFrame ≤ length (now buffer)) × (16 ≤ state .held) × (state .error ≡ 0) ⌝ }
-    ensures { λ r. ⌜ r ≡ deframed state (now (buffer .entry)) (now (piece .entry)) .step ⌝ }
-    ensures { λ r. ⌜ now (buffer .exit) ≡ deframed state (now (buffer .entry)) (now (piece .entry)) .buffer ⌝ }
+pub(crate) fn more(state: Deframer, buffer: &mut [u8], ceiling: u32, piece: &[u8]) -> Step
+    requires { ⌜ CeilingOk ceiling × (ceiling ≤ length (now buffer)) × (16 ≤ state .held) × (state .error ≡ 0) ⌝ }
+    ensures { λ r. ⌜ r ≡ deframed ceiling state (now (buffer .entry)) (now (piece .entry)) .step ⌝ }
+    ensures { λ r. ⌜ now (buffer .exit) ≡ deframed ceiling state (now (buffer .entry)) (now (piece .entry)) .buffer ⌝ }
 {
     let held = state.held;
-    let total = frame_size(buffer, held);
+    let total = frame_size(buffer, ceiling, held);
     if total == 0 {
         return refused(STATE_UNKNOWN, state);
     }
@@ -148,11 +147,11 @@ pub(crate) fn more(state: Deframer, buffer: &mut [u8], piece: &[u8]) -> Step
 }
 
 // The header, of which fewer than 16 bytes are held, is checked once its 16th byte is there; after a good one the frame goes on.
-fn head(buffer: &mut [u8], held: usize, piece: &[u8]) -> Step
-    requires { ⌜ (maxFrame ≤ length (now buffer)) × (held < 16) ⌝ }
-    ensures { λ r. ⌜ r ≡ advance held (now (buffer .entry)) (stream held (now (buffer .entry)) (now (piece .entry))) .step ⌝ }
+fn head(buffer: &mut [u8], ceiling: u32, held: usize, piece: &[u8]) -> Step
+    requires { ⌜ CeilingOk ceiling × (ceiling ≤ length (now buffer)) × (held < 16) ⌝ }
+    ensures { λ r. ⌜ r ≡ advance ceiling held (now (buffer .entry)) (stream held (now (buffer .entry)) (now (piece .entry))) .step ⌝ }
     ensures { λ r. ⌜ now (buffer .exit)
-        ≡ advance held (now (buffer .entry)) (stream held (now (buffer .entry)) (now (piece .entry))) .buffer ⌝ }
+        ≡ advance ceiling held (now (buffer .entry)) (stream held (now (buffer .entry)) (now (piece .entry))) .buffer ⌝ }
 {
     let filled = fill(buffer, held, HEADER, piece);
     if filled < HEADER {
@@ -165,7 +164,7 @@ fn head(buffer: &mut [u8], held: usize, piece: &[u8]) -> Step
             taken: filled - held,
         };
     }
-    let code = check_header(&buffer[..HEADER]);
+    let code = check_header(&buffer[..HEADER], ceiling);
     if code != 0 {
         return Step {
             progress: Progress::Refused(code),
@@ -181,17 +180,17 @@ fn head(buffer: &mut [u8], held: usize, piece: &[u8]) -> Step
 }
 
 // Fewer than 16 bytes are held. Where none is, and the piece has a good header, one copy takes what the piece has of the frame.
-pub(crate) fn start(buffer: &mut [u8], held: usize, piece: &[u8]) -> Step
-    requires { ⌜ (maxFrame ≤ length (now buffer)) × (held < 16) ⌝ }
-    ensures { λ r. ⌜ r ≡ advance held (now (buffer .entry)) (stream held (now (buffer .entry)) (now (piece .entry))) .step ⌝ }
+pub(crate) fn start(buffer: &mut [u8], ceiling: u32, held: usize, piece: &[u8]) -> Step
+    requires { ⌜ CeilingOk ceiling × (ceiling ≤ length (now buffer)) × (held < 16) ⌝ }
+    ensures { λ r. ⌜ r ≡ advance ceiling held (now (buffer .entry)) (stream held (now (buffer .entry)) (now (piece .entry))) .step ⌝ }
     ensures { λ r. ⌜ now (buffer .exit)
-        ≡ advance held (now (buffer .entry)) (stream held (now (buffer .entry)) (now (piece .entry))) .buffer ⌝ }
+        ≡ advance ceiling held (now (buffer .entry)) (stream held (now (buffer .entry)) (now (piece .entry))) .buffer ⌝ }
 {
     if held == 0 {
-        let total = frame_size(piece, 0);
+        let total = frame_size(piece, ceiling, 0);
         if total != 0 {
             return content(buffer, 0, 0, total, piece);
         }
     }
-    head(buffer, held, piece)
+    head(buffer, ceiling, held, piece)
 }

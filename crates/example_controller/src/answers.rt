@@ -1,4 +1,5 @@
-// How the stream ended, and the answers to its requests.
+// How a stream ended, and the answers to the requests.
+use crate::lines::line_of;
 use crate::print::part;
 use crate::print::print;
 use crate::print::print_bytes;
@@ -12,8 +13,8 @@ use records::Response;
 use records::Span;
 use writer::Encoded;
 
-pub(crate) fn print_end(deframer: Deframer, buffer: &[u8]) {
-    let end = deframer::finish(deframer, buffer);
+pub(crate) fn print_end(deframer: Deframer, buffer: &[u8], ceiling: u32) {
+    let end = deframer::finish(deframer, buffer, ceiling);
     match end {
         End::Clean => print(b"the stream ends clean\n"),
         End::Short(held) => {
@@ -59,8 +60,9 @@ fn print_last(error: u32) {
     print(b"\n");
 }
 
-// Writes the response to a job, and prints its bytes.
+// Writes the response to a job under the ceiling of the job's line, and prints its bytes.
 fn answer(job: Job) {
+    let line = line_of(job.connection);
     let response = Record::Response(Response {
         id: job.request,
         header_version: 0,
@@ -78,7 +80,7 @@ fn answer(job: Job) {
     });
     let mut out = [0u8; 64];
     let rows = [0; 4];
-    let written = writer::write(response, b"", &rows, b"done", &mut out);
+    let written = writer::write(response, b"", &rows, b"done", &mut out, line.ceiling);
     print(b"request ");
     print_number(job.request as u64);
     print(b" is due first; its response:");

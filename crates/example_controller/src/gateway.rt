@@ -1,14 +1,14 @@
 // The gateway: a Feedback frame, which is no request, then four requests, then the beginning of a frame that never gets whole. The
 // jobs are due in the order 2, 1, 3; the second 2 is refused, since 2 waits already.
+use crate::frames::VERSION;
+use crate::frames::copy_to;
+use crate::frames::write_frame;
+use crate::lines::GATEWAY;
 use records::Feedback;
 use records::Record;
 use records::Request;
 use records::Span;
-use writer::Encoded;
 ghost use Prim.Native.Nat.{_≤_};
-
-// The protocol version that the gateway names in its fixed headers. Every version is read.
-const VERSION: u8 = 1;
 
 // Where piece number n of the stream starts, from 0: the pieces have 1, 7, 31, 3, 19 and 113 bytes, and then again.
 pub(crate) fn piece_start(n: usize) -> usize
@@ -31,7 +31,7 @@ fn start_in_turn(k: usize) -> usize
 }
 
 // Writes the stream, and returns its length.
-pub(crate) fn write_stream(out: &mut [u8; 1024]) -> usize {
+pub(crate) fn write_stream(out: &mut [u8]) -> usize {
     let feedback = Record::Feedback(Feedback {
         id: 5,
         header_version: VERSION,
@@ -39,19 +39,24 @@ pub(crate) fn write_stream(out: &mut [u8; 1024]) -> usize {
         rows: 0,
     });
     let rows = [0; 4];
-    let at = write_frame(feedback, b"", &rows, b"", out, 0);
+    let at = write_frame(feedback, b"", &rows, b"", out, GATEWAY.ceiling, 0);
+    let at = write_orders(out, at);
+    copy_to(b"\x09\x30\x00\x00\x00\x00\x00", out, at)
+}
+
+// The requests.
+fn write_orders(out: &mut [u8], at: usize) -> usize {
     let at = write_request(1, 4000000000, b"cell4/cell.Robot/Park", b"", out, at);
     let at = write_request(2, 600000, b"cell4/cell.Robot/Pick", b"crate 12", out, at);
     let at = write_request(3, 0, b"cell7/cell.Robot/Report", b"since noon", out, at);
-    let at = write_request(
+    write_request(
         2,
         5000,
         b"cell4/cell.Robot/Pick",
         b"crate 12, again",
         out,
         at,
-    );
-    copy_to(b"\x09\x30\x00\x00\x00\x00\x00", out, at)
+    )
 }
 
 // A request with one row. Its source is the key, a value of one byte, and the function's name.
@@ -85,7 +90,7 @@ fn write_request(
         rows: 1,
     });
     let rows = [0, 4, 4, 1];
-    write_frame(request, source, &rows, body, out, at)
+    write_frame(request, source, &rows, body, out, GATEWAY.ceiling, at)
 }
 
 // How many bytes follow the key and its value.
@@ -98,33 +103,4 @@ fn name_size(source: &[u8]) -> u32 {
         return 0;
     }
     (size - 5) as u32
-}
-
-// Writes a frame after those in the output, and returns the place after it.
-fn write_frame(
-    record: Record,
-    source: &[u8],
-    rows: &[u32],
-    body: &[u8],
-    out: &mut [u8],
-    at: usize,
-) -> usize {
-    if out.len() < at {
-        return at;
-    }
-    let room = out.len() - at;
-    let written = writer::write(record, source, rows, body, &mut out[at..]);
-    match written {
-        Encoded::Frame(size) => { if size <= room { at + size } else { at } }
-        Encoded::Refused(_) => at,
-    }
-}
-
-// Bytes as they are.
-fn copy_to(bytes: &[u8], out: &mut [u8], at: usize) -> usize {
-    let written = wire_write::write_raw(bytes, out, at);
-    match written {
-        wire_write::Written::Next(next) => next,
-        wire_write::Written::Refused(_) => at,
-    }
 }

@@ -1,4 +1,5 @@
 // Frames that are read as requests.
+use crate::lines::Line;
 use crate::print::part;
 use crate::print::print;
 use crate::print::print_number;
@@ -14,13 +15,10 @@ use records::Request;
 use records::Span;
 use schema::Kind;
 
-// The number of the connection that the stream comes on.
-const CONNECTION: u32 = 1;
-
-// Reads a frame as a request and queues a job for it. The deframer has found its header good.
-pub(crate) fn accept(q: Queue, frame: &[u8], rows: &mut [u32], now: u64) -> Queue {
-    let Parsed::Good(header) = fixed_header::parse_header(part(frame, 0, fixed_header::HEADER))
-    else {
+// Reads a frame of a line as a request and queues a job for it. The deframer has found its header good.
+pub(crate) fn accept(q: Queue, line: Line, frame: &[u8], rows: &mut [u32], now: u64) -> Queue {
+    let fixed = part(frame, 0, fixed_header::HEADER);
+    let Parsed::Good(header) = fixed_header::parse_header(fixed, line.ceiling) else {
         return q;
     };
     print(b"frame of ");
@@ -29,10 +27,10 @@ pub(crate) fn accept(q: Queue, frame: &[u8], rows: &mut [u32], now: u64) -> Queu
     if !is_unary(header) {
         return q;
     }
-    let located = read_spans(Kind::Request, frame, rows);
+    let located = read_spans(Kind::Request, frame, line.ceiling, rows);
     let answer = located.answer;
     match answer {
-        Answer::Read(record) => accept_record(q, frame, located, record, rows, now),
+        Answer::Read(record) => accept_record(q, line, frame, located, record, rows, now),
         Answer::Refused(code) => {
             print(b"bad, error ");
             print_number(code as u64);
@@ -45,6 +43,7 @@ pub(crate) fn accept(q: Queue, frame: &[u8], rows: &mut [u32], now: u64) -> Queu
 // Queues a job for the request that was read.
 fn accept_record(
     q: Queue,
+    line: Line,
     frame: &[u8],
     located: Located,
     record: Record,
@@ -55,7 +54,7 @@ fn accept_record(
         return q;
     };
     print_request(frame, located, request, rows);
-    add(q, request, now)
+    add(q, line, request, now)
 }
 
 // Whether a frame may be a request; reports one that is not.
@@ -131,8 +130,8 @@ fn print_row(frame: &[u8], rows: &[u32], i: usize) {
 }
 
 // Queues the job of a request.
-fn add(q: Queue, request: Request, now: u64) -> Queue {
-    let added = queue::add(q, queue::job_of(request, CONNECTION, now));
+fn add(q: Queue, line: Line, request: Request, now: u64) -> Queue {
+    let added = queue::add(q, queue::job_of(request, line.connection, now));
     let waiting = added.queue;
     if added.error == 0 {
         print(b"  queued at ");

@@ -1,10 +1,10 @@
 -- Promised (document 02, P2): the last two bytes of a fixed header are judged by no rule. Of two lists of one length that agree on their
--- first 14 bytes both have the same error code (`last-two-ignored`). If they agree on byte 15, too, they say the same: byte 16 is not
+-- first 14 bytes both have the same error code under every ceiling (`last-two-ignored`). If they agree on byte 15, too, they say the same: byte 16 is not
 -- looked at (`byte-16-unparsed`). The version is byte 15 (`version-is-byte-15`).
 -- Not promised: that lists that differ in byte 15 say the same; it is the version.
 -- Ruled out: a check that refuses a version, and one that looks at byte 16; a version that is only some bits of byte 15.
 -- Assumes nothing.
-use Prim.Native.Nat.{ℕ, _+_, _%_, _^_, _<_}
+use Prim.Native.Nat.{ℕ, _+_, _^_, _<_}
 use mathlib.Core.Path.{_≡_, sym, ap, _∙_}
 use mathlib.Core.List.{List}
 use native.Mathlib.Omega.{arith}
@@ -36,9 +36,9 @@ module _ (a b : List ℕ) (agree : take 14 a ≡ take 14 b) where
   unfolding idOf
   same-id = same-32 10 (omega arith)
 
-  same-fault : faultOf a ≡ faultOf b
+  same-fault : (c : ℕ) → faultOf c a ≡ faultOf c b
   unfolding faultOf
-  same-fault =
+  same-fault c =
       rw (
         same-byte 0 (omega arith),
         same-byte 1 (omega arith),
@@ -48,17 +48,17 @@ module _ (a b : List ℕ) (agree : take 14 a ≡ take 14 b) where
         same-header-size,
       )
 
-  pub last-two-ignored : length a ≡ length b → headerError a ≡ headerError b
+  pub last-two-ignored : (c : ℕ) → length a ≡ length b → headerError c a ≡ headerError c b
   unfolding headerError
-  last-two-ignored e = rw (e, same-fault)
+  last-two-ignored c e = rw (e, same-fault c)
 
 -- the same of the first 16 bytes of longer lists
 module _ (a b : List ℕ) (long : length a ≡ length b) (agree : take 14 a ≡ take 14 b) where
   front : take 14 (take 16 a) ≡ take 14 (take 16 b)
   front = take-take 14 16 a (omega arith) ∙ agree ∙ sym (take-take 14 16 b (omega arith))
 
-  pub first-error : headerError (take 16 a) ≡ headerError (take 16 b)
-  first-error = last-two-ignored (take 16 a) (take 16 b) front (omega (arith, length-take 16 a, length-take 16 b, long))
+  pub first-error : (c : ℕ) → headerError c (take 16 a) ≡ headerError c (take 16 b)
+  first-error c = last-two-ignored (take 16 a) (take 16 b) front c (omega (arith, length-take 16 a, length-take 16 b, long))
 
   pub first-total : totalOf (take 16 a) ≡ totalOf (take 16 b)
   first-total = same-total (take 16 a) (take 16 b) front
@@ -70,14 +70,15 @@ module _ (a b : List ℕ) (agree : take 15 a ≡ take 15 b) where
   pub same-version : versionOf a ≡ versionOf b
   unfolding versionOf
   same-version =
-      ap (λ (n : ℕ). n % 256)
-      (sym (getD-take 15 a 14 0 (omega arith)) ∙ ap (λ (l : List ℕ). getD l 14 0) agree ∙ getD-take 15 b 14 0 (omega arith))
+      let byte : getD a 14 0 ≡ getD b 14 0
+      = sym (getD-take 15 a 14 0 (omega arith)) ∙ ap (λ (l : List ℕ). getD l 14 0) agree ∙ getD-take 15 b 14 0 (omega arith) in
+      rw byte
 
-  pub byte-16-unparsed : length a ≡ length b → parsed a ≡ parsed b
+  pub byte-16-unparsed : (c : ℕ) → length a ≡ length b → parsed c a ≡ parsed c b
   unfolding parsed
-  byte-16-unparsed e =
+  byte-16-unparsed c e =
       rw (
-        last-two-ignored a b same-14 e,
+        last-two-ignored a b same-14 c e,
         same-byte a b same-14 2 (omega arith),
         same-byte a b same-14 3 (omega arith),
         same-total a b same-14,

@@ -2,6 +2,7 @@
 pub mod Digits
 pub mod Codes
 pub mod RoundTrip
+pub mod Ceilings
 pub mod LastTwo
 -- Demand 1, of every public entry
 pub mod AsksNothing

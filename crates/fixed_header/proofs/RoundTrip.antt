@@ -1,7 +1,7 @@
 -- The round trip of the 16 bytes.
 --
--- Promised: a header that keeps the rules of document 01, with an id of 32 bits and a version of 8, is written as 16 bytes that are read
--- as that header.
+-- Promised: a header that keeps the rules of document 01 under a ceiling in range, with an id of 32 bits and a version of 8, is written as
+-- 16 bytes that are read under that ceiling as that header.
 -- Not promised: anything of another header. It is written by the low 32 bits of its total and the low 16 of its header size, so the bytes
 -- may be those of a header that keeps the rules.
 -- Ruled out: two headers that keep the rules and have the same 16 bytes.
@@ -52,12 +52,12 @@ pub sixteen-bytes : (h : FixedHeader) → length (fixedHeader h) ≡ 16
 unfolding fixedHeader
 sixteen-bytes h = refl
 
-module _ (h : FixedHeader) (k : Keeps h) where
+module _ (c : ℕ) (h : FixedHeader) (k : Keeps c h) where
   total-bounds : (16 ≤ h .total) × (h .total ≤ maxFrame)
   unfolding totalOk
   total-bounds =
-      let a = both (leb 16 (h .total)) (leb (h .total) maxFrame) (k .total-good) in
-      (leb-true _ _ (a .0), leb-true _ _ (a .1))
+      let a = both (leb 16 (h .total)) (leb (h .total) c) (k .total-good) in
+      (leb-true _ _ (a .0), omega (arith, leb-true (h .total) c (a .1), k .in-range))
 
   size-small : h .«header_size» < 65536
   unfolding headerSizeOk
@@ -86,21 +86,21 @@ module _ (h : FixedHeader) (k : Keeps h) where
     version-back = omega (arith, k .version-small)
 
   -- ---- it is good
-  pub header-good : headerError (fixedHeader h) ≡ 0
+  pub header-good : headerError c (fixedHeader h) ≡ 0
   unfolding fixedHeader faultOf magicOk
   header-good =
       let total-is : totalOf (fixedHeader h) ≡ h .total = total-back [] in
       let size-is : headerSizeOf (fixedHeader h) ≡ h .«header_size» = size-back [] in
       let types = types-good (h .«frame_type») in
-      sixteen (fixedHeader h) (sixteen-bytes h)
+      sixteen c (k .in-range) (fixedHeader h) (sixteen-bytes h)
       ∙ passes (dataTypeOk (dataType (h .«frame_type»))) 4 (types .0)
       (passes (streamTypeOk (dataType (h .«frame_type»)) (streamType (h .«frame_type»))) 5 (types .1)
-      (passes (totalOk (totalOf (fixedHeader h))) 6 (rw total-is (k .total-good))
+      (passes (totalOk c (totalOf (fixedHeader h))) 6 (rw total-is (k .total-good))
       (passes (headerSizeOk (dataType (h .«frame_type»)) (totalOf (fixedHeader h)) (headerSizeOf (fixedHeader h))) 7
       (rw (total-is, size-is) (k .size-good)) refl)))
 
   -- ---- the theorem
-  pub header-back : parsed (fixedHeader h) ≡ Good h
+  pub header-back : parsed c (fixedHeader h) ≡ Good h
   unfolding parsed fixedHeader versionOf
   header-back =
       rw (eq-eqb _ _ header-good, total-back [], size-back [], id-back [], version-back [], type-back (h .«frame_type»))

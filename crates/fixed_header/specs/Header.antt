@@ -1,5 +1,6 @@
 -- Document 01, "The 16 bytes": what a fixed header says, and the error code (document 01: refusal number) of a bad one
-use Prim.Native.Nat.{ℕ, _+_, _-_, _*_, _%_}
+use Prim.Native.Nat.{ℕ, _+_, _-_, _*_, _%_, _<_, _≤_}
+use mathlib.Core.Logic.{_⊎_}
 use mathlib.Core.List.{List}
 use mathlib.Core.Bool.{Bool, cond, _&&_, _||_}
 use lib.Dec.{eqb, ltb, leb}
@@ -11,9 +12,20 @@ use Rattle.fixed_header.specs.declared.FrameType.the-variants.{Unary, In
 use Rattle.fixed_header.specs.declared.Parsed.{Parsed}
 use Rattle.fixed_header.specs.declared.Parsed.the-variants.{Good, Refused}
 
--- the one place of "16 to 65,536" and of "buffer under 65,536 bytes"
+-- Document 01's "16 to 65,536": the largest ceiling
 abbrev pub maxFrame : ℕ
 maxFrame = 65536
+
+-- Document 02, P11: "The header judge is now told a ceiling, from 16 to 65,536". The test, and the same as a premise of laws
+unfoldable pub ceilingOk : ℕ → Bool
+ceilingOk c = leb 16 c && leb c maxFrame
+
+abbrev pub CeilingOk : ℕ → Type 0
+CeilingOk c = (16 ≤ c) × (c ≤ maxFrame)
+
+-- the ground of 41: "ceiling outside the range"
+abbrev pub WrongCeiling : ℕ → Type 0
+WrongCeiling c = (c < 16) ⊎ (maxFrame < c)
 
 -- "Numbers are big-endian": the two and the four bytes at a place. Places are counted from 0, the paper's bytes from 1
 unfoldable pub be16Of : List ℕ → ℕ → ℕ
@@ -46,9 +58,9 @@ dataTypeOk data-type = leb data-type 1
 unfoldable pub streamTypeOk : ℕ → ℕ → Bool
 streamTypeOk data-type stream-type = eqb data-type 0 || (leb 1 stream-type && leb stream-type 4)
 
--- "total size, these 16 included | 16 to 65,536"
-unfoldable pub totalOk : ℕ → Bool
-totalOk total = leb 16 total && leb total maxFrame
+-- "total size, these 16 included | 16 to 65,536"; P11: "1, 6 and 19 speak of the ceiling"
+unfoldable pub totalOk : (c total : ℕ) → Bool
+totalOk c total = leb 16 total && leb total c
 
 -- "header size | unary: at most total less 16; stream: 0". A total under 16 breaks the rule before this one, so the subtraction does not
 -- stop at 0 (`good-total`).
@@ -66,17 +78,18 @@ abbrev pub typeFault : (first second data-type stream-type later : ℕ) → ℕ
 typeFault first second data-type stream-type later =
     unless (magicOk first second) 3 (unless (dataTypeOk data-type) 4 (unless (streamTypeOk data-type stream-type) 5 later))
 
-abbrev pub sizeFault : (data-type total size : ℕ) → ℕ
-sizeFault data-type total size = unless (totalOk total) 6 (unless (headerSizeOk data-type total size) 7 0)
+abbrev pub sizeFault : (c data-type total size : ℕ) → ℕ
+sizeFault c data-type total size = unless (totalOk c total) 6 (unless (headerSizeOk data-type total size) 7 0)
 
-unfoldable pub faultOf : List ℕ → ℕ
-faultOf h =
+unfoldable pub faultOf : (c : ℕ) → List ℕ → ℕ
+faultOf c h =
     typeFault (getD h 0 0) (getD h 1 0) (getD h 2 0) (getD h 3 0)
-    (sizeFault (getD h 2 0) (totalOf h) (headerSizeOf h))
+    (sizeFault c (getD h 2 0) (totalOf h) (headerSizeOf h))
 
--- Document 01's judge of a fixed header. "Order: judge 9, then 3 to 8", without 8; "9 | length isn't the total (judge: not 16)"
-unfoldable pub headerError : List ℕ → ℕ
-headerError h = unless (eqb (length h) 16) 9 (faultOf h)
+-- Document 01's judge of a fixed header. P11: "41 ceiling outside the range, before all others". "Order: judge 9, then 3 to 8", without 8;
+-- "9 | length isn't the total (judge: not 16)"
+unfoldable pub headerError : (c : ℕ) → List ℕ → ℕ
+headerError c h = unless (ceilingOk c) 41 (unless (eqb (length h) 16) 9 (faultOf c h))
 
 -- "data type | 0 unary, 1 stream"; "1 Init, 2 Data, 3 Feedback, 4 Close"
 unfoldable pub typeOf : ℕ → ℕ → FrameType
@@ -99,8 +112,8 @@ headerIn h =
     }
 
 -- what a good header says, and of a bad one its error code
-unfoldable pub parsed : List ℕ → Parsed
-parsed h = cond (eqb (headerError h) 0) (Good (headerIn h)) (Refused (headerError h))
+unfoldable pub parsed : (c : ℕ) → List ℕ → Parsed
+parsed c h = cond (eqb (headerError c h) 0) (Good (headerIn h)) (Refused (headerError c h))
 
 -- the total size that the first 16 bytes declare, 0 where there are fewer
 unfoldable pub declaredSize : List ℕ → ℕ

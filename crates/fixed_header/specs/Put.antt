@@ -5,7 +5,7 @@ use mathlib.Core.Bool.{true, cond}
 use mathlib.Core.List.{List, [], _∷_, _++_}
 use lib.Dec.{leb}
 use lib.ListN.{length, drop}
-use Rattle.fixed_header.specs.Header.{totalOk, headerSizeOk}
+use Rattle.fixed_header.specs.Header.{CeilingOk, totalOk, headerSizeOk}
 use Rattle.fixed_header.specs.declared.FixedHeader.{FixedHeader}
 use Rattle.fixed_header.specs.declared.FrameType.{FrameType}
 use Rattle.fixed_header.specs.declared.FrameType.the-variants.{Unary, Init, Data, Feedback, Close}
@@ -41,9 +41,10 @@ fixedHeader h =
     0x09 ∷ 0x30 ∷ dataType (h .«frame_type») ∷ streamType (h .«frame_type»)
     ∷ put32 (h .total) ++ put16 (h .«header_size») ++ put32 (h .id) ++ (h .version % 256) ∷ 0 ∷ []
 
--- a header that keeps the rules of document 01, with an id of 32 bits and a version of 8
-pub record Keeps (h : FixedHeader) : Type 0 where
-  pub total-good : totalOk (h .total) ≡ true
+-- a header that keeps the rules of document 01 under a ceiling in range, with an id of 32 bits and a version of 8
+pub record Keeps (c : ℕ) (h : FixedHeader) : Type 0 where
+  pub in-range : CeilingOk c
+  pub total-good : totalOk c (h .total) ≡ true
   pub size-good : headerSizeOk (dataType (h .«frame_type»)) (h .total) (h .«header_size») ≡ true
   pub id-small : h .id < 2 ^ 32
   pub version-small : h .version < 2 ^ 8

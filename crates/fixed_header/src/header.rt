@@ -2,14 +2,15 @@
 use crate::FixedHeader;
 use crate::FrameType;
 use crate::HEADER;
-use crate::MAX_FRAME;
 use refusals::BAD_DATA_TYPE;
 use refusals::BAD_HEADER_SIZE;
 use refusals::BAD_MAGIC;
 use refusals::BAD_STREAM_TYPE;
 use refusals::BAD_TOTAL;
 ghost use mathlib.Core.Path.{_≡_};
-ghost use Prim.Native.Nat.{_+_, _%_, _≤_, _<_};
+ghost use Prim.Native.Nat.{_+_, _%_, _^_, _≤_, _<_};
+ghost use mathlib.Core.Bool.{_&&_};
+ghost use lib.Dec.{eqb};
 ghost use lib.ListN.{length};
 ghost use Rattle.fixed_header.specs.Header.{be16Of, be32Of, totalOf, headerSizeOf, typeOf, headerIn};
 ghost use Rattle.fixed_header.specs.Header.{magicOk, streamTypeOk, totalOk, headerSizeOk, typeFault, sizeFault, faultOf};
@@ -45,7 +46,7 @@ pub(crate) fn total(h: &[u8]) -> usize
 
 fn header_size(h: &[u8]) -> usize
     requires { ⌜ 16 ≤ length (now h) ⌝ }
-    ensures { λ r. ⌜ r ≡ headerSizeOf (now (h .entry)) ⌝ }
+    ensures { λ r. ⌜ (r ≡ headerSizeOf (now (h .entry))) × (r < 65536) ⌝ }
 {
     be16(h, 8) as usize
 }
@@ -85,20 +86,25 @@ fn stream_type_ok(stream_type: u8) -> bool
     stream_type <= 4
 }
 
-fn total_ok(total: usize) -> bool
-    ensures { λ r. ⌜ r ≡ totalOk total ⌝ }
+// What a total leaves after the 16 bytes. One under 16 wraps to more than any ceiling leaves, so that one comparison looks at both ends of
+// the rule.
+fn content_size(total: u32) -> usize
+    ensures { λ r. ⌜ (r < 2 ^ 32) × ((r + 16) % 2 ^ 32 ≡ total) ⌝ }
 {
-    if total < HEADER {
-        return false;
-    }
-    total <= MAX_FRAME
+    (total as usize + 4294967280) % 4294967296
 }
 
-fn header_size_ok(data_type: u8, total: usize, size: usize) -> bool
-    requires { ⌜ 16 ≤ total ⌝ }
-    ensures { λ r. ⌜ r ≡ headerSizeOk «data_type» total size ⌝ }
+fn total_ok(content: usize, ceiling: u32) -> bool
+    requires { ⌜ (16 ≤ ceiling) × (content < 2 ^ 32) ⌝ }
+    ensures { λ r. ⌜ r ≡ totalOk ceiling ((content + 16) % 2 ^ 32) ⌝ }
 {
-    let most = if data_type == 0 { total - HEADER } else { 0 };
+    content <= ceiling as usize - HEADER
+}
+
+fn header_size_ok(data_type: u8, content: usize, size: usize) -> bool
+    ensures { λ r. ⌜ r ≡ headerSizeOk «data_type» (content + 16) size ⌝ }
+{
+    let most = if data_type == 0 { content } else { 0 };
     size <= most
 }
 
@@ -122,28 +128,58 @@ fn type_fault(first: u8, second: u8, data_type: u8, stream_type: u8) -> u32
 }
 
 // 6 or 7: the first rule of the sizes that is broken, 0 for none.
-fn size_fault(data_type: u8, total: usize, size: usize) -> u32
-    ensures { λ r. ⌜ r ≡ sizeFault «data_type» total size ⌝ }
+fn size_fault(data_type: u8, total: u32, size: usize, ceiling: u32) -> u32
+    requires { ⌜ 16 ≤ ceiling ⌝ }
+    ensures { λ r. ⌜ r ≡ sizeFault ceiling «data_type» total size ⌝ }
 {
-    if !total_ok(total) {
+    let content = content_size(total);
+    if !total_ok(content, ceiling) {
         return BAD_TOTAL;
     }
-    if !header_size_ok(data_type, total, size) {
+    if !header_size_ok(data_type, content, size) {
         return BAD_HEADER_SIZE;
     }
     0
 }
 
 // The error code of the first rule that 16 bytes break, 0 where they break none.
-pub(crate) fn fault(h: &[u8]) -> u32
-    requires { ⌜ 16 ≤ length (now h) ⌝ }
-    ensures { λ r. ⌜ r ≡ faultOf (now (h .entry)) ⌝ }
+pub(crate) fn fault(h: &[u8], ceiling: u32) -> u32
+    requires { ⌜ (16 ≤ length (now h)) × (16 ≤ ceiling) ⌝ }
+    ensures { λ r. ⌜ r ≡ faultOf ceiling (now (h .entry)) ⌝ }
 {
     let types = type_fault(h[0], h[1], h[2], h[3]);
     if types != 0 {
         return types;
     }
-    size_fault(h[2], total(h), header_size(h))
+    size_fault(h[2], be32(h, 4), header_size(h), ceiling)
+}
+
+// Whether both rules of the sizes are kept: a total that holds the header message is no less than 16.
+fn sizes_ok(data_type: u8, total: usize, size: usize, ceiling: u32) -> bool
+    requires { ⌜ size < 65536 ⌝ }
+    ensures { λ r. ⌜ r ≡ totalOk ceiling total && headerSizeOk «data_type» total size ⌝ }
+{
+    if (ceiling as usize) < total {
+        return false;
+    }
+    if total < HEADER + size {
+        return false;
+    }
+    if data_type == 0 {
+        return true;
+    }
+    size == 0
+}
+
+// Whether 16 bytes break no rule, without naming one.
+pub(crate) fn good(h: &[u8], ceiling: u32) -> bool
+    requires { ⌜ 16 ≤ length (now h) ⌝ }
+    ensures { λ r. ⌜ r ≡ eqb (faultOf ceiling (now (h .entry))) 0 ⌝ }
+{
+    if type_fault(h[0], h[1], h[2], h[3]) != 0 {
+        return false;
+    }
+    sizes_ok(h[2], total(h), header_size(h), ceiling)
 }
 
 // The version is byte 15 as it is: of a byte the definition's remainder is the byte.

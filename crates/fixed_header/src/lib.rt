@@ -4,10 +4,12 @@
 mod header;
 mod put;
 
+use refusals::BAD_CEILING;
 use refusals::WRONG_FRAME;
 ghost use mathlib.Core.Path.{_≡_};
-ghost use Rattle.fixed_header.specs.Header.{headerError, declaredSize, parsed};
+ghost use Rattle.fixed_header.specs.Header.{ceilingOk, headerError, declaredSize, parsed};
 ghost use Rattle.fixed_header.specs.Put.{headerPut};
+ghost use lib.Dec.{eqb};
 
 // The size of the fixed header.
 pub const HEADER: usize = 16;
@@ -38,14 +40,42 @@ pub enum Parsed {
     Refused(u32),
 }
 
-// The error code of a fixed header: 0 where it is good, 9 where it is not 16 bytes, else 3 to 7.
-pub fn check_header(bytes: &[u8]) -> u32
-    ensures { λ r. ⌜ r ≡ headerError (now (bytes .entry)) ⌝ }
+// Whether a connection can have this ceiling, the largest frame that it takes: 16 to MAX_FRAME.
+pub fn ceiling_ok(ceiling: u32) -> bool
+    ensures { λ r. ⌜ r ≡ ceilingOk ceiling ⌝ }
 {
+    let most = ceiling as usize;
+    if most < HEADER {
+        return false;
+    }
+    most <= MAX_FRAME
+}
+
+// The error code of a fixed header under a ceiling: 0 where it is good, 41 for a ceiling out of range, 9 where it is not 16 bytes, else 3
+// to 7.
+pub fn check_header(bytes: &[u8], ceiling: u32) -> u32
+    ensures { λ r. ⌜ r ≡ headerError ceiling (now (bytes .entry)) ⌝ }
+{
+    if !ceiling_ok(ceiling) {
+        return BAD_CEILING;
+    }
     if bytes.len() != HEADER {
         return WRONG_FRAME;
     }
-    header::fault(bytes)
+    header::fault(bytes, ceiling)
+}
+
+// Whether a fixed header is good under a ceiling: that `check_header` gives 0, in fewer steps.
+pub fn header_good(bytes: &[u8], ceiling: u32) -> bool
+    ensures { λ r. ⌜ r ≡ eqb (headerError ceiling (now (bytes .entry))) 0 ⌝ }
+{
+    if !ceiling_ok(ceiling) {
+        return false;
+    }
+    if bytes.len() != HEADER {
+        return false;
+    }
+    header::good(bytes, ceiling)
 }
 
 // The total size that the first 16 bytes declare, good or not; 0 where there are fewer.
@@ -58,11 +88,11 @@ pub fn declared_size(bytes: &[u8]) -> usize
     header::total(&bytes[..HEADER])
 }
 
-// What a fixed header says, or its error code.
-pub fn parse_header(bytes: &[u8]) -> Parsed
-    ensures { λ r. ⌜ r ≡ parsed (now (bytes .entry)) ⌝ }
+// What a fixed header says, or its error code under a ceiling.
+pub fn parse_header(bytes: &[u8], ceiling: u32) -> Parsed
+    ensures { λ r. ⌜ r ≡ parsed ceiling (now (bytes .entry)) ⌝ }
 {
-    let code = check_header(bytes);
+    let code = check_header(bytes, ceiling);
     if code != 0 {
         return Parsed::Refused(code);
     }

@@ -1,8 +1,8 @@
 -- Document 01, "The listing": its example, computed. The cutting of its 20 bytes is a row of `thm_examples`
 use mathlib.Core.Path.{_≡_, refl}
 use mathlib.Core.List.{List, [], _∷_, _++_}
-use Rattle.fixed_header.specs.Header.{be16Of, be32Of, totalOf, headerSizeOf, idOf, versionOf, headerError, typeOf, parsed}
-use Rattle.fixed_header.specs.Header.{magicOk, dataTypeOk, streamTypeOk, totalOk, headerSizeOk, faultOf}
+use Rattle.fixed_header.specs.Header.{maxFrame, be16Of, be32Of, totalOf, headerSizeOf, idOf, versionOf, headerError, typeOf, parsed}
+use Rattle.fixed_header.specs.Header.{ceilingOk, magicOk, dataTypeOk, streamTypeOk, totalOk, headerSizeOk, faultOf}
 use Rattle.fixed_header.specs.declared.FixedHeader.{FixedHeader}
 use Rattle.fixed_header.specs.declared.FrameType.the-variants.{Feedback}
 use Rattle.fixed_header.specs.declared.Parsed.the-variants.{Good}
@@ -13,9 +13,9 @@ use Rattle.listing.specs.Lines.{frameLine, endLine}
 abbrev header : FixedHeader
 header = record { «frame_type» = Feedback; total = 19; «header_size» = 0; id = 5; version = 0 }
 
-pub example-header : parsed (0x09 ∷ 0x30 ∷ 0x01 ∷ 0x03 ∷ 0 ∷ 0 ∷ 0 ∷ 0x13 ∷ 0 ∷ 0 ∷ 0 ∷ 0 ∷ 0 ∷ 0x05 ∷ 0 ∷ 0 ∷ []) ≡ Good header
+pub example-header : parsed maxFrame (0x09 ∷ 0x30 ∷ 0x01 ∷ 0x03 ∷ 0 ∷ 0 ∷ 0 ∷ 0x13 ∷ 0 ∷ 0 ∷ 0 ∷ 0 ∷ 0 ∷ 0x05 ∷ 0 ∷ 0 ∷ []) ≡ Good header
 unfolding parsed headerError typeOf be16Of be32Of totalOf headerSizeOf idOf versionOf magicOk dataTypeOk streamTypeOk totalOk headerSizeOk
-    faultOf
+    faultOf ceilingOk
 example-header = refl
 
 -- "prints exactly `1 feedback 5 19` `end short 1`"

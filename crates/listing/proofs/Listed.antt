@@ -7,6 +7,7 @@ use lib.ListN.{length, take, length-append, length-take}
 use lib.Seq.{take-at, length-take-le}
 use Rattle.deframer.specs.Deframe.{ended}
 use Rattle.deframer.specs.declared.Deframer.{Deframer}
+use Rattle.fixed_header.specs.Header.{maxFrame}
 use Rattle.fixed_header.specs.declared.FixedHeader.{FixedHeader}
 use Rattle.fixed_header.specs.declared.Parsed.{Parsed}
 use Rattle.fixed_header.specs.declared.Parsed.the-variants.{Good, Refused}
@@ -48,11 +49,11 @@ lists-none p code listing text e = subst (λ (q : Parsed). ListsFrame q listing 
 
 pub lists-end : (buffer : List ℕ) (before : Listing) (text : List ℕ) (ready : Listing) (after : List ℕ) (next : ℕ)
     → ready .deframer ≡ before .deframer → ready .pending ≡ kept before text
-    → Adds (endLine (ended (ready .deframer) buffer)) text (ready .pending) after next
-    → after ≡ withText text (kept before text) (endLine (ended (before .deframer) buffer))
+    → Adds (endLine (ended maxFrame (ready .deframer) buffer)) text (ready .pending) after next
+    → after ≡ withText text (kept before text) (endLine (ended maxFrame (before .deframer) buffer))
 lists-end buffer before text ready after next d e a =
-    a .written ∙ ap (λ (n : ℕ). withText text n (endLine (ended (ready .deframer) buffer))) e
-    ∙ ap (λ (s : Deframer). withText text (kept before text) (endLine (ended s buffer))) d
+    a .written ∙ ap (λ (n : ℕ). withText text n (endLine (ended maxFrame (ready .deframer) buffer))) e
+    ∙ ap (λ (s : Deframer). withText text (kept before text) (endLine (ended maxFrame s buffer))) d
 
 -- a step's statement is that of its case
 pub lists-case : (p q : Progress) (buffer : List ℕ) (before : Listing) (text : List ℕ) (listed : Listing) (after : List ℕ) → p ≡ q

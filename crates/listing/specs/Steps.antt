@@ -6,7 +6,7 @@ use mathlib.Core.Bool.{true, false, cond}
 use mathlib.Core.List.{List, _++_}
 use lib.Dec.{leb}
 use lib.ListN.{length, take, drop}
-use Rattle.fixed_header.specs.Header.{parsed}
+use Rattle.fixed_header.specs.Header.{maxFrame, parsed}
 use Rattle.deframer.specs.Deframe.{fresh, deframed, ended}
 use Rattle.deframer.specs.declared.Deframer.{Deframer}
 use Rattle.fixed_header.specs.declared.Parsed.{Parsed}
@@ -58,13 +58,13 @@ ListsFrame (header.Refused code) before text listed after = (listed ≡ before) 
 -- "then one end line": it is put after what is still to be printed, and then all of it is printed
 abbrev pub ListsEnd : (buffer : List ℕ) → (before : Listing) → (text : List ℕ) → Listing → (after : List ℕ) → Type 0
 ListsEnd buffer before text listed after =
-    (after ≡ withText text (kept before text) (endLine (ended (before .deframer) buffer)))
+    (after ≡ withText text (kept before text) (endLine (ended maxFrame (before .deframer) buffer)))
     × (listed .pending ≡ 0)
     × (listed .done ≡ true)
 
 -- what a call of the deframer came to: a frame is listed, or nothing is, or the end
 abbrev pub ListsStep : Progress → (buffer : List ℕ) → (before : Listing) → (text : List ℕ) → Listing → (after : List ℕ) → Type 0
-ListsStep (progress.Frame size) buffer before text listed after = ListsFrame (parsed (take 16 buffer)) before text listed after
+ListsStep (progress.Frame size) buffer before text listed after = ListsFrame (parsed maxFrame (take 16 buffer)) before text listed after
 ListsStep progress.NeedMore buffer before text listed after = (listed ≡ before) × (after ≡ text)
 ListsStep (progress.Refused code) buffer before text listed after = ListsEnd buffer before text listed after
 
@@ -74,8 +74,8 @@ pub data ListsSteps (piece : List ℕ) (first : Listing) (buffer₀ text₀ : Li
   none : ListsSteps piece first buffer₀ text₀ 0 first buffer₀ text₀
   another : {from : ℕ} {before listed : Listing} {buffer text buffer₁ after : List ℕ} {step : Step}
       → ListsSteps piece first buffer₀ text₀ from before buffer text
-      → step ≡ deframed (before .deframer) buffer (drop from piece) .step
-      → buffer₁ ≡ deframed (before .deframer) buffer (drop from piece) .buffer
+      → step ≡ deframed maxFrame (before .deframer) buffer (drop from piece) .step
+      → buffer₁ ≡ deframed maxFrame (before .deframer) buffer (drop from piece) .buffer
       → ListsStep (step .progress) buffer₁ (withDeframer before (step .next)) text listed after
       → ListsSteps piece first buffer₀ text₀ (from + step .taken) listed buffer₁ after
 

@@ -24,6 +24,9 @@ ghost use Rattle.listing.specs.Lines.{frameLine, endLine, maxLine};
 ghost use Rattle.listing.specs.Steps.{Text, start, withDeframer, nextNumber, kept, ListsFrame, ListsEnd, ListsStep, ListsPiece};
 ghost use Rattle.listing.specs.Reads.{Printed, ListsNext, ListsInput};
 
+// The listing keeps document 01's ceiling.
+const CEILING: u32 = 65536;
+
 // What is kept from piece to piece: the deframer's state, how many frames were listed, how many bytes of the text are not
 // printed yet, and whether the program is done.
 struct Listing {
@@ -113,11 +116,11 @@ fn list_piece(listing: Listing, piece: &[u8], buffer: &mut [u8], text: &mut [u8]
 // Hands the rest of the piece to the deframer, which takes at least a byte of it unless it refuses a header.
 fn deframe_rest(deframer: Deframer, buffer: &mut [u8], piece: &[u8], from: usize) -> Step
     requires { ⌜ from < length (now piece) ⌝ }
-    ensures { λ r. ⌜ r ≡ deframed deframer (now (buffer .entry)) (drop from (now (piece .entry))) .step ⌝ }
-    ensures { λ r. ⌜ now (buffer .exit) ≡ deframed deframer (now (buffer .entry)) (drop from (now (piece .entry))) .buffer ⌝ }
+    ensures { λ r. ⌜ r ≡ deframed maxFrame deframer (now (buffer .entry)) (drop from (now (piece .entry))) .step ⌝ }
+    ensures { λ r. ⌜ now (buffer .exit) ≡ deframed maxFrame deframer (now (buffer .entry)) (drop from (now (piece .entry))) .buffer ⌝ }
     ensures { λ r. ⌜ (from + r .taken ≤ length (now (piece .entry))) × (isRefused (r .progress) ≡ false → 0 < r .taken) ⌝ }
 {
-    deframer::deframe(deframer, buffer, &piece[from..])
+    deframer::deframe(deframer, buffer, CEILING, &piece[from..])
 }
 
 // Lists what a call of the deframer came to.
@@ -145,9 +148,10 @@ fn list_step(listing: Listing, step: Step, buffer: &[u8], text: &mut [u8]) -> Li
 fn list_frame(listing: Listing, buffer: &[u8], text: &mut [u8]) -> Listing
     requires { ⌜ (maxFrame ≤ length (now buffer)) × Text (listing .pending) (now text) ⌝ }
     ensures { λ r. ⌜ (r .pending ≤ length (now (text .entry)))
-        × ListsFrame (parsed (take 16 (now (buffer .entry)))) listing (now (text .entry)) r (now (text .exit)) ⌝ }
+        × ListsFrame (parsed maxFrame (take 16 (now (buffer .entry)))) listing (now (text .entry)) r (now (text .exit)) ⌝ }
 {
-    let Parsed::Good(header) = fixed_header::parse_header(&buffer[..fixed_header::HEADER]) else {
+    let Parsed::Good(header) = fixed_header::parse_header(&buffer[..fixed_header::HEADER], CEILING)
+    else {
         return listing;
     };
     add_frame(with_room(listing, text), header, text)
@@ -178,11 +182,11 @@ fn list_end(listing: Listing, buffer: &[u8], text: &mut [u8]) -> Listing
 fn add_end(listing: Listing, buffer: &[u8], text: &mut [u8]) -> Listing
     requires { ⌜ listing .pending + maxLine ≤ length (now text) ⌝ }
     ensures { λ r. ⌜ (r .pending ≤ length (now (text .entry)))
-        × Adds (endLine (ended (listing .deframer) (now (buffer .entry)))) (now (text .entry)) (listing .pending)
+        × Adds (endLine (ended maxFrame (listing .deframer) (now (buffer .entry)))) (now (text .entry)) (listing .pending)
         (now (text .exit)) (r .pending) ⌝ }
 {
     let mut listed = listing;
-    let end = deframer::finish(listed.deframer, buffer);
+    let end = deframer::finish(listed.deframer, buffer, CEILING);
     listed.pending = lines::end_line(text, listed.pending, end);
     listed
 }

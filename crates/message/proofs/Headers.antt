@@ -8,7 +8,7 @@ use borrow.Author.Tests.{eqb-true, eqb-false, leb-true}
 use lib.Dec.{eqb, leb}
 use lib.ListN.{length, take, getD}
 use lib.Seq.{getD-take}
-use Rattle.fixed_header.specs.Header.{maxFrame, be16Of, be32Of, totalOf, headerSizeOf, idOf, versionOf, magicOk, dataTypeOk}
+use Rattle.fixed_header.specs.Header.{ceilingOk, be16Of, be32Of, totalOf, headerSizeOf, idOf, versionOf, magicOk, dataTypeOk}
 use Rattle.fixed_header.specs.Header.{streamTypeOk, totalOk, headerSizeOk, faultOf, headerError, typeOf, parsed}
 use Rattle.fixed_header.specs.declared.FixedHeader.{FixedHeader}
 use Rattle.fixed_header.specs.declared.Parsed.the-variants.{Good, Refused}
@@ -24,7 +24,7 @@ be32-take : (f : List ℕ) (at : ℕ) → at + 3 < 16 → be32Of (take 16 f) at 
 unfolding be32Of
 be32-take f at h = rw (be16-take f at (omega arith), be16-take f (at + 2) (omega arith))
 
-total-take : (f : List ℕ) → totalOf (take 16 f) ≡ totalOf f
+pub total-take : (f : List ℕ) → totalOf (take 16 f) ≡ totalOf f
 unfolding totalOf
 total-take f = be32-take f 4 (omega arith)
 
@@ -45,25 +45,27 @@ small : (unary : Bool) (size total : ℕ) → cond unary (leb size (total - 16))
 small true size total e = leb-true _ _ e
 small false size total e = let z : size ≡ 0 = eqb-true _ _ e in omega arith
 
--- the header lies within the frame: in a stream frame it is empty
-pub good-size : (f : List ℕ) → headerError (take 16 f) ≡ 0 → headerSizeOf f ≤ totalOf f - 16
-unfolding headerError faultOf headerSizeOk
-good-size f e =
-    let h = take 16 f in
-    let a = kept (eqb (length h) 16) 9 _ (omega arith) e in
-    let b = kept (magicOk (getD h 0 0) (getD h 1 0)) 3 _ (omega arith) (a .1) in
-    let c = kept (dataTypeOk (getD h 2 0)) 4 _ (omega arith) (b .1) in
-    let d = kept (streamTypeOk (getD h 2 0) (getD h 3 0)) 5 _ (omega arith) (c .1) in
-    let g = kept (totalOk (totalOf h)) 6 _ (omega arith) (d .1) in
-    let k = kept (cond (eqb (getD h 2 0) 0) (leb (headerSizeOf h) (totalOf h - 16)) (eqb (headerSizeOf h) 0)) 7 _ (omega arith) (g .1) in
-    rw (← size-take f, ← total-take f) (small (eqb (getD h 2 0) 0) (headerSizeOf h) (totalOf h) (k .0))
+module _ (c : ℕ) where
+  -- the header lies within the frame: in a stream frame it is empty
+  pub good-size : (f : List ℕ) → headerError c (take 16 f) ≡ 0 → headerSizeOf f ≤ totalOf f - 16
+  unfolding headerError faultOf headerSizeOk
+  good-size f e =
+      let h = take 16 f in
+      let r = kept (ceilingOk c) 41 _ (omega arith) e in
+      let a = kept (eqb (length h) 16) 9 _ (omega arith) (r .1) in
+      let b = kept (magicOk (getD h 0 0) (getD h 1 0)) 3 _ (omega arith) (a .1) in
+      let q = kept (dataTypeOk (getD h 2 0)) 4 _ (omega arith) (b .1) in
+      let d = kept (streamTypeOk (getD h 2 0) (getD h 3 0)) 5 _ (omega arith) (q .1) in
+      let g = kept (totalOk c (totalOf h)) 6 _ (omega arith) (d .1) in
+      let k = kept (cond (eqb (getD h 2 0) 0) (leb (headerSizeOf h) (totalOf h - 16)) (eqb (headerSizeOf h) 0)) 7 _ (omega arith) (g .1) in
+      rw (← size-take f, ← total-take f) (small (eqb (getD h 2 0) 0) (headerSizeOf h) (totalOf h) (k .0))
 
-pub good-whole : (f : List ℕ) → headerError (take 16 f) ≡ 0 → (16 ≤ totalOf f) × (totalOf f ≤ maxFrame)
-good-whole f e = rw (← total-take f) (good-total (take 16 f) e)
+  pub good-whole : (f : List ℕ) → headerError c (take 16 f) ≡ 0 → (16 ≤ totalOf f) × (totalOf f ≤ c)
+  good-whole f e = rw (← total-take f) (good-total c (take 16 f) e)
 
 -- ---- what `parse_header` answers
-pub record Says (f : List ℕ) (x : FixedHeader) : Type 0 where
-  pub good : headerError (take 16 f) ≡ 0
+pub record Says (c : ℕ) (f : List ℕ) (x : FixedHeader) : Type 0 where
+  pub good : headerError c (take 16 f) ≡ 0
   pub total-is : x .total ≡ totalOf f
   pub size-is : x .«header_size» ≡ headerSizeOf f
   pub id-is : x .id ≡ idOf f
@@ -79,28 +81,30 @@ told f =
       version = versionOf (take 16 f);
     }
 
-pub parsed-good : (f : List ℕ) (x : FixedHeader) → Good x ≡ parsed (take 16 f) → Says f x
-unfolding parsed
-parsed-good f x e = go (eqb (headerError (take 16 f)) 0) refl e
-  where
-    go : (b : Bool) → eqb (headerError (take 16 f)) 0 ≡ b → Good x ≡ cond b (Good (told f)) (Refused (headerError (take 16 f))) → Says f x
-    go true t g =
-        let same : x ≡ told f = cc in
-        record {
-          good = eqb-true _ _ t;
-          total-is = ap (λ (y : FixedHeader). y .total) same ∙ total-take f;
-          size-is = ap (λ (y : FixedHeader). y .«header_size») same ∙ size-take f;
-          id-is = ap (λ (y : FixedHeader). y .id) same ∙ id-take f;
-          version-is = ap (λ (y : FixedHeader). y .version) same ∙ version-take f;
-        }
-    go false t g = let z : _≡_ {A = ℕ} 0 1 = cc in absurd (omega arith)
+module _ (c : ℕ) where
+  pub parsed-good : (f : List ℕ) (x : FixedHeader) → Good x ≡ parsed c (take 16 f) → Says c f x
+  unfolding parsed
+  parsed-good f x e = go (eqb (headerError c (take 16 f)) 0) refl e
+    where
+      go : (b : Bool) → eqb (headerError c (take 16 f)) 0 ≡ b → Good x ≡ cond b (Good (told f)) (Refused (headerError c (take 16 f)))
+          → Says c f x
+      go true t g =
+          let same : x ≡ told f = cc in
+          record {
+            good = eqb-true _ _ t;
+            total-is = ap (λ (y : FixedHeader). y .total) same ∙ total-take f;
+            size-is = ap (λ (y : FixedHeader). y .«header_size») same ∙ size-take f;
+            id-is = ap (λ (y : FixedHeader). y .id) same ∙ id-take f;
+            version-is = ap (λ (y : FixedHeader). y .version) same ∙ version-take f;
+          }
+      go false t g = let z : _≡_ {A = ℕ} 0 1 = cc in absurd (omega arith)
 
-pub parsed-refused : (f : List ℕ) (code : ℕ) → Refused code ≡ parsed (take 16 f)
-    → (headerError (take 16 f) ≡ 0 → ⊥) × (code ≡ headerError (take 16 f))
-unfolding parsed
-parsed-refused f code e = go (eqb (headerError (take 16 f)) 0) refl e
-  where
-    go : (b : Bool) → eqb (headerError (take 16 f)) 0 ≡ b → Refused code ≡ cond b (Good (told f)) (Refused (headerError (take 16 f)))
-        → (headerError (take 16 f) ≡ 0 → ⊥) × (code ≡ headerError (take 16 f))
-    go true t g = let z : _≡_ {A = ℕ} 0 1 = cc in absurd (omega arith)
-    go false t g = (eqb-false _ _ t, cc)
+  pub parsed-refused : (f : List ℕ) (code : ℕ) → Refused code ≡ parsed c (take 16 f)
+      → (headerError c (take 16 f) ≡ 0 → ⊥) × (code ≡ headerError c (take 16 f))
+  unfolding parsed
+  parsed-refused f code e = go (eqb (headerError c (take 16 f)) 0) refl e
+    where
+      go : (b : Bool) → eqb (headerError c (take 16 f)) 0 ≡ b → Refused code ≡ cond b (Good (told f)) (Refused (headerError c (take 16 f)))
+          → (headerError c (take 16 f) ≡ 0 → ⊥) × (code ≡ headerError c (take 16 f))
+      go true t g = let z : _≡_ {A = ℕ} 0 1 = cc in absurd (omega arith)
+      go false t g = (eqb-false _ _ t, cc)

@@ -1,5 +1,7 @@
 -- That spans name the parts
 pub mod SpansStand
+-- What a connection's ceiling decides
+pub mod Under
 -- For the layers above
 pub mod Readings
 -- For the proofs of this crate's functions

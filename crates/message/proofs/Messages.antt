@@ -6,7 +6,7 @@ use native.Mathlib.Omega.{arith}
 use borrow.Author.Tests.{le-leb, lt-leb}
 use lib.ListN.{length, drop, replicate, length-drop}
 use lib.Seq.{length-take-le}
-use Rattle.fixed_header.specs.Header.{headerSizeOf, idOf, versionOf}
+use Rattle.fixed_header.specs.Header.{maxFrame, headerSizeOf, idOf, versionOf}
 use Rattle.wire_read.specs.Part.{part}
 use Rattle.schema.specs.Schema.{schemaAt}
 use Rattle.decoder.specs.Rows.{Row, rowNumbers, laidOut, rowsCleared}
@@ -132,14 +132,15 @@ module _ (kind : Kind) (f lent : List ℕ) (size id version body n : ℕ) (d : D
   its = rw (← (ap schemaAt schema-is ∙ numbered kind), ← head)
       (decodes f 16 body n lent d numbers rows (frame-size kind f size id version whole .1) gave)
 
-  answer : readFrame kind f lent ≡ answered kind f lent result
+  answer : readFrame maxFrame kind f lent ≡ answered kind f lent result
   unfolding result
-  answer = its-message kind f lent rows (frame-size kind f size id version whole .0) (whole .good) (whole .total-is) (whole .fits)
+  answer = its-message maxFrame kind f lent rows (whole .good) (whole .total-is) (whole .fits)
 
   pub few-decoded : d .error ≡ 0 → d .slots .rows ≤ 64
   few-decoded e = let (st, x, r) = succeeded result d numbers lent its e in omega (arith, ap rows-of (r .answer-is), r .few)
 
-  pub fields-refused : {p : Parts} → (d .error ≡ 0 → ⊥) → p ≡ noParts (d .error) → PartsOf (readFrame kind f lent) (length f) p numbers
+  pub fields-refused : {p : Parts} → (d .error ≡ 0 → ⊥) → p ≡ noParts (d .error)
+      → PartsOf (readFrame maxFrame kind f lent) (length f) p numbers
   unfolding answered
   fields-refused n g =
       let (e, zeros) = failed result d numbers lent its n in
@@ -147,7 +148,7 @@ module _ (kind : Kind) (f lent : List ℕ) (size id version body n : ℕ) (d : D
 
   pub attachment-refused : {p : Parts} {a : ℕ} {last : List ℕ} → d .error ≡ 0 → a ≡ attachmentSizeOf kind (d .slots .values)
       → length f - body < a
-      → last ≡ rowsCleared numbers → p ≡ noParts 15 → PartsOf (readFrame kind f lent) (length f) p last
+      → last ≡ rowsCleared numbers → p ≡ noParts 15 → PartsOf (readFrame maxFrame kind f lent) (length f) p last
   attachment-refused {a} e is-a large last g =
       let (st, x, r) = succeeded result d numbers lent its e in
       let a-is : a ≡ attachmentSizeOf kind (st .slots) = is-a ∙ ap (attachmentSizeOf kind) (ap values-of (r .answer-is)) in
@@ -159,7 +160,7 @@ module _ (kind : Kind) (f lent : List ℕ) (size id version body n : ℕ) (d : D
 
   pub message-read : {r : Record} {a : ℕ} → d .error ≡ 0 → a ≡ attachmentSizeOf kind (d .slots .values) → a ≤ length f - body
       → r ≡ recordOf kind id version (d .slots .values) (d .slots .rows)
-      → PartsOf (readFrame kind f lent) (length f)
+      → PartsOf (readFrame maxFrame kind f lent) (length f)
       (record { answer = answers.Read r; places = record { header = 16; body = body; attachment = length f - a; end = length f } })
       numbers
   message-read {a} e is-a fits is-r =

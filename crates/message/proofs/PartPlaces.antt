@@ -16,10 +16,10 @@ use Rattle.message.proofs.Headers.{good-size, good-whole}
 
 module _ (kind : Kind) (f : List ℕ) (size id version : ℕ) (whole : Whole kind f size id version) where
   pub header-size : 16 + size ≤ length f
-  header-size = omega (arith, whole .size-is, whole .total-is, good-size f (whole .good), good-whole f (whole .good))
+  header-size = omega (arith, whole .size-is, whole .total-is, good-size maxFrame f (whole .good), good-whole maxFrame f (whole .good))
 
   pub frame-size : (16 ≤ length f) × (length f ≤ maxFrame)
-  frame-size = omega (arith, whole .total-is, good-whole f (whole .good))
+  frame-size = omega (arith, whole .total-is, good-whole maxFrame f (whole .good))
 
 -- the header ends, and the body starts, within the frame
 body-within : (kind : Kind) (size n : ℕ) → 16 + size ≤ n → (16 ≤ bodyAt kind size n) × (bodyAt kind size n ≤ n)

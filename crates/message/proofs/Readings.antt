@@ -1,65 +1,80 @@
--- What `readFrame` gives on each ground, in document 01's order
+-- What `readFrame` gives on each ground, in the papers' order: document 02's 41, then document 01's
 use Prim.Native.Nat.{ℕ, _≤_, _<_}
-use mathlib.Core.Path.{_≡_}
-use mathlib.Core.Bool.{true, false}
+use mathlib.Core.Path.{_≡_, sym, ap}
+use mathlib.Core.Bool.{true, false, not}
 use mathlib.Core.List.{List}
-use borrow.Author.Tests.{lt-ltb, le-ltb, eq-eqb, ne-eqb}
-use lib.ListN.{length, take, getD}
-use Rattle.fixed_header.specs.Header.{headerError, totalOf}
-use Rattle.decoder.specs.Fields.{readMessage}
+use borrow.Author.Tests.{lt-ltb, le-ltb, eq-eqb, ne-eqb, not-true}
+use native.Mathlib.Omega.{arith}
+use lib.ListN.{length, take, getD, length-take}
+use Rattle.laws.proofs.Booleans.{choose}
+use Rattle.fixed_header.specs.Header.{ceilingOk, CeilingOk, headerError, totalOf}
+use Rattle.fixed_header.proofs.Codes as codes
+use Rattle.fixed_header.proofs.Codes.{ceiling-ok, good-ceiling, good-length}
 use Rattle.decoder.specs.Rows.{rowNumbers}
-use Rattle.schema.specs.Kinds.{schemaOf}
-use Rattle.message.specs.Frames.{headerOf, kindFits, refusedUntouched, answered, readFrame}
+use Rattle.message.specs.Frames.{Reading, kindFits, refusedUntouched, readWhole, readFrame}
 use Rattle.schema.specs.declared.Kind.{Kind}
 
-pub few-rows : (kind : Kind) (f lent : List ℕ) → length lent < rowNumbers → readFrame kind f lent ≡ refusedUntouched 16 lent
+pub bad-ceiling : (c : ℕ) (kind : Kind) (f lent : List ℕ) → ceilingOk c ≡ false → readFrame c kind f lent ≡ refusedUntouched 41 lent
 unfolding readFrame
-few-rows kind f lent h = rw (lt-ltb (length lent) rowNumbers h)
+bad-ceiling c kind f lent e = rw e
 
-module _ (kind : Kind) (f lent : List ℕ) (rows : rowNumbers ≤ length lent) where
-  pub short : length f < 16 → readFrame kind f lent ≡ refusedUntouched 9 lent
+pub few-rows : (c : ℕ) → CeilingOk c → (kind : Kind) (f lent : List ℕ) → length lent < rowNumbers
+    → readFrame c kind f lent ≡ refusedUntouched 16 lent
+unfolding readFrame
+few-rows c in-range kind f lent h = rw (ceiling-ok c in-range, lt-ltb (length lent) rowNumbers h)
+
+module _ (c : ℕ) (kind : Kind) (f lent : List ℕ) (rows : rowNumbers ≤ length lent) where
+  pub short : CeilingOk c → length f < 16 → readFrame c kind f lent ≡ refusedUntouched 9 lent
   unfolding readFrame
-  short h = rw (le-ltb (length lent) rowNumbers rows, lt-ltb (length f) 16 h)
+  short in-range h = rw (ceiling-ok c in-range, le-ltb (length lent) rowNumbers rows, lt-ltb (length f) 16 h)
 
-  pub bad-header : 16 ≤ length f → (headerError (take 16 f) ≡ 0 → ⊥) → readFrame kind f lent
-      ≡ refusedUntouched (headerError (take 16 f)) lent
+  -- a ceiling out of range is a number of the header too, 41: so none is asked for
+  pub bad-header : 16 ≤ length f → (headerError c (take 16 f) ≡ 0 → ⊥)
+      → readFrame c kind f lent ≡ refusedUntouched (headerError c (take 16 f)) lent
   unfolding readFrame
-  bad-header long n = rw (le-ltb (length lent) rowNumbers rows, le-ltb (length f) 16 long, ne-eqb (headerError (take 16 f)) 0 n)
+  bad-header long n =
+      choose (λ (x : Reading). x ≡ refusedUntouched (headerError c (take 16 f)) lent) (not (ceilingOk c)) _ _
+      (λ e. ap (λ (code : ℕ). refusedUntouched code lent) (sym (codes.bad-ceiling c (take 16 f) (not-true (ceilingOk c) e))))
+      (λ e. rw (le-ltb (length lent) rowNumbers rows, le-ltb (length f) 16 long, ne-eqb (headerError c (take 16 f)) 0 n))
 
-  module _ (long : 16 ≤ length f) (good : headerError (take 16 f) ≡ 0) where
-    pub not-whole : (length f ≡ totalOf f → ⊥) → readFrame kind f lent ≡ refusedUntouched 9 lent
+  -- a good header's ceiling is in range, and it has its 16 bytes
+  module _ (good : headerError c (take 16 f) ≡ 0) where
+    long : 16 ≤ length f
+    long = omega (arith, good-length c (take 16 f) good, length-take 16 f)
+
+    pub not-whole : (length f ≡ totalOf f → ⊥) → readFrame c kind f lent ≡ refusedUntouched 9 lent
     unfolding readFrame
     not-whole n =
         rw (
+          ceiling-ok c (good-ceiling c (take 16 f) good),
           le-ltb (length lent) rowNumbers rows,
           le-ltb (length f) 16 long,
-          eq-eqb (headerError (take 16 f)) 0 good,
-          ne-eqb (length f)
-              (totalOf f) n,
+          eq-eqb (headerError c (take 16 f)) 0 good,
+          ne-eqb (length f) (totalOf f) n,
         )
 
-    pub other-kind : length f ≡ totalOf f → kindFits kind (getD f 2 0) (getD f 3 0) ≡ false → readFrame kind f lent
-        ≡ refusedUntouched 9 lent
+    pub other-kind : length f ≡ totalOf f → kindFits kind (getD f 2 0) (getD f 3 0) ≡ false
+        → readFrame c kind f lent ≡ refusedUntouched 9 lent
     unfolding readFrame
     other-kind e k =
         rw (
+          ceiling-ok c (good-ceiling c (take 16 f) good),
           le-ltb (length lent) rowNumbers rows,
           le-ltb (length f) 16 long,
-          eq-eqb (headerError (take 16 f)) 0 good,
-          eq-eqb (length f)
-              (totalOf f) e,
+          eq-eqb (headerError c (take 16 f)) 0 good,
+          eq-eqb (length f) (totalOf f) e,
           k,
         )
 
     pub its-message : length f ≡ totalOf f → kindFits kind (getD f 2 0) (getD f 3 0) ≡ true
-        → readFrame kind f lent ≡ answered kind f lent (readMessage f (schemaOf kind) 16 (headerOf kind f))
+        → readFrame c kind f lent ≡ readWhole kind f lent
     unfolding readFrame
     its-message e k =
         rw (
+          ceiling-ok c (good-ceiling c (take 16 f) good),
           le-ltb (length lent) rowNumbers rows,
           le-ltb (length f) 16 long,
-          eq-eqb (headerError (take 16 f)) 0 good,
-          eq-eqb (length f)
-              (totalOf f) e,
+          eq-eqb (headerError c (take 16 f)) 0 good,
+          eq-eqb (length f) (totalOf f) e,
           k,
         )

@@ -1,15 +1,15 @@
--- The bytes of the frame at a part's start and length are the part: `spans-stand`, for every frame, kind and lent row numbers, refused
--- ones too. It rules out a span of the right length at another place, and one that reaches past the frame.
+-- The bytes of the frame at a part's start and length are the part: `spans-stand`, for every ceiling, frame, kind and lent row numbers,
+-- refused ones too. It rules out a span of the right length at another place, and one that reaches past the frame.
 use Prim.Native.Nat.{ℕ, _+_, _-_}
 use mathlib.Core.Path.{_≡_, refl, sym, ap, _∙_}
-use mathlib.Core.Bool.{Bool, true, false, cond, _&&_}
+use mathlib.Core.Bool.{Bool, true, false, not, cond, _&&_}
 use mathlib.Core.List.{List, [], _∷_}
 use native.Mathlib.Omega.{arith}
 use borrow.Author.Tests.{eqb-true, ltb-true, ltb-false}
 use lib.Dec.{eqb, ltb, leb}
 use lib.ListN.{length, take, drop, getD, length-drop, drop-of-length-le}
 use lib.Seq.{length-take-le, take-all, drop-drop, drop-length}
-use Rattle.fixed_header.specs.Header.{headerError, totalOf, headerSizeOf, idOf, versionOf}
+use Rattle.fixed_header.specs.Header.{ceilingOk, headerError, totalOf, headerSizeOf, idOf, versionOf}
 use Rattle.decoder.specs.Rows.{rowNumbers, laidOut}
 use Rattle.decoder.specs.Fields.{Result, ok, refused, readMessage}
 use Rattle.schema.specs.Kinds.{schemaOf}
@@ -119,13 +119,14 @@ module _ (f : List ℕ) where
         (no-parts 15 (laidOut [] lent))
     of-result (refused code) = no-parts code (laidOut [] lent)
 
-    pub spans-stand : Stands f (readFrame kind f lent)
-    unfolding readFrame
-    spans-stand =
-        either (ltb (length lent) rowNumbers) (no-parts 16 lent)
-        (either (ltb (length f) 16) (no-parts 9 lent)
-        (either (eqb (headerError (take 16 f)) 0)
-        (either (eqb (length f) (totalOf f) && kindFits kind (getD f 2 0) (getD f 3 0))
-        (of-result (readMessage f (schemaOf kind) 16 (headerOf kind f)))
-        (no-parts 9 lent))
-        (no-parts (headerError (take 16 f)) lent)))
+pub spans-stand : (c : ℕ) (f : List ℕ) (kind : Kind) (lent : List ℕ) → Stands f (readFrame c kind f lent)
+unfolding readFrame
+spans-stand c f kind lent =
+    either f (not (ceilingOk c)) (no-parts f 41 lent)
+    (either f (ltb (length lent) rowNumbers) (no-parts f 16 lent)
+    (either f (ltb (length f) 16) (no-parts f 9 lent)
+    (either f (eqb (headerError c (take 16 f)) 0)
+    (either f (eqb (length f) (totalOf f) && kindFits kind (getD f 2 0) (getD f 3 0))
+    (of-result f kind lent (readMessage f (schemaOf kind) 16 (headerOf kind f)))
+    (no-parts f 9 lent))
+    (no-parts f (headerError c (take 16 f)) lent))))

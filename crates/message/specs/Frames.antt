@@ -1,10 +1,10 @@
 -- Document 01, "The messages": reading a frame as a named kind
 use Prim.Native.Nat.{ℕ, _+_, _-_}
-use mathlib.Core.Bool.{Bool, cond, _&&_}
+use mathlib.Core.Bool.{Bool, not, cond, _&&_}
 use mathlib.Core.List.{List, []}
 use lib.ListN.{length, take, drop, getD}
 use lib.Dec.{ltb, leb, eqb}
-use Rattle.fixed_header.specs.Header.{headerError, totalOf, headerSizeOf, idOf, versionOf}
+use Rattle.fixed_header.specs.Header.{ceilingOk, headerError, totalOf, headerSizeOf, idOf, versionOf}
 use Rattle.decoder.specs.Fields.{State, Result, ok, refused, readMessage}
 use Rattle.decoder.specs.Rows.{rowNumbers, laidOut}
 use Rattle.schema.specs.Kinds.{schemaOf}
@@ -83,13 +83,18 @@ unfoldable pub answered : Kind → List ℕ → List ℕ → Result → Reading
 answered kind f lent (refused code) = refusedCleared code lent
 answered kind f lent (ok st) = withAttachment kind f lent st
 
--- "Reader: 16; fewer than 16 bytes is 9; 3 to 8; 9; then fields from left to right, ..; 15 last", without 8
-unfoldable pub readFrame : Kind → List ℕ → List ℕ → Reading
-readFrame kind f lent =
-    cond (ltb (length lent) rowNumbers) (refusedUntouched 16 lent)
+-- what the message of a whole frame of its kind comes to
+abbrev pub readWhole : Kind → List ℕ → List ℕ → Reading
+readWhole kind f lent = answered kind f lent (readMessage f (schemaOf kind) 16 (headerOf kind f))
+
+-- "Reader: 16; fewer than 16 bytes is 9; 3 to 8; 9; then fields from left to right, ..; 15 last", without 8. Document 02, P11: "41 ceiling
+-- outside the range, before all others"
+unfoldable pub readFrame : (c : ℕ) → Kind → List ℕ → List ℕ → Reading
+readFrame c kind f lent =
+    cond (not (ceilingOk c)) (refusedUntouched 41 lent)
+    (cond (ltb (length lent) rowNumbers) (refusedUntouched 16 lent)
     (cond (ltb (length f) 16) (refusedUntouched 9 lent)
-    (cond (eqb (headerError (take 16 f)) 0)
-    (cond (eqb (length f) (totalOf f) && kindFits kind (getD f 2 0) (getD f 3 0))
-    (answered kind f lent (readMessage f (schemaOf kind) 16 (headerOf kind f)))
+    (cond (eqb (headerError c (take 16 f)) 0)
+    (cond (eqb (length f) (totalOf f) && kindFits kind (getD f 2 0) (getD f 3 0)) (readWhole kind f lent)
     (refusedUntouched 9 lent))
-    (refusedUntouched (headerError (take 16 f)) lent)))
+    (refusedUntouched (headerError c (take 16 f)) lent))))

@@ -35,9 +35,10 @@ bodyAt kinds.Data h n = 16
 bodyAt kinds.Feedback h n = n
 bodyAt kinds.Close h n = n
 
--- a frame that is whole and of its kind, with its header size, id and version
+-- a frame that is good under a ceiling, so under the largest (`good-largest` of `fixed_header`), whole and of its kind, with its header
+-- size, id and version
 pub record Whole (kind : Kind) (f : List ℕ) (headerSize id version : ℕ) : Type 0 where
-  pub good : headerError (take 16 f) ≡ 0
+  pub good : headerError maxFrame (take 16 f) ≡ 0
   pub total-is : length f ≡ totalOf f
   pub fits : kindFits kind (getD f 2 0) (getD f 3 0) ≡ true
   pub size-is : headerSize ≡ headerSizeOf f

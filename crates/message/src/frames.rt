@@ -6,10 +6,12 @@ use decoder::decode;
 use fixed_header::FixedHeader;
 use fixed_header::HEADER;
 use fixed_header::Parsed;
+use fixed_header::ceiling_ok;
 use fixed_header::parse_header;
 use records::Span;
 use records::record_of;
 use refusals::BAD_BODY;
+use refusals::BAD_CEILING;
 use refusals::ROWS_SHORT;
 use refusals::WRONG_FRAME;
 use schema::Kind;
@@ -118,7 +120,7 @@ fn read_message(
     rows: &mut [u32],
 ) -> Parts
     requires { ⌜ (rowNumbers ≤ length (now rows)) × Whole kind (now frame) «header_size» id version ⌝ }
-    ensures { λ r. ⌜ PartsOf (readFrame kind (now (frame .entry)) (now (rows .entry))) (length (now (frame .entry)))
+    ensures { λ r. ⌜ PartsOf (readFrame maxFrame kind (now (frame .entry)) (now (rows .entry))) (length (now (frame .entry)))
         r (now (rows .exit)) ⌝ }
 {
     let size = frame.len();
@@ -146,10 +148,10 @@ fn read_message(
     }
 }
 
-// A frame with a good fixed header.
+// A frame whose fixed header is good: from here on its ceiling says nothing (`read-under`).
 fn read_whole(kind: Kind, frame: &[u8], header: FixedHeader, rows: &mut [u32]) -> Parts
-    requires { ⌜ (rowNumbers ≤ length (now rows)) × (16 ≤ length (now frame)) × (Good header ≡ parsed (take 16 (now frame))) ⌝ }
-    ensures { λ r. ⌜ PartsOf (readFrame kind (now (frame .entry)) (now (rows .entry))) (length (now (frame .entry)))
+    requires { ⌜ (rowNumbers ≤ length (now rows)) × (16 ≤ length (now frame)) × (Good header ≡ parsed maxFrame (take 16 (now frame))) ⌝ }
+    ensures { λ r. ⌜ PartsOf (readFrame maxFrame kind (now (frame .entry)) (now (rows .entry))) (length (now (frame .entry)))
         r (now (rows .exit)) ⌝ }
 {
     if frame.len() != header.total {
@@ -168,18 +170,21 @@ fn read_whole(kind: Kind, frame: &[u8], header: FixedHeader, rows: &mut [u32]) -
     )
 }
 
-// A frame read as a kind: the order of the error codes is 16; 9 for fewer than 16 bytes; 3 to 7; 9; 10 to 14; 15.
-pub(crate) fn read_parts(kind: Kind, frame: &[u8], rows: &mut [u32]) -> Parts
-    ensures { λ r. ⌜ PartsOf (readFrame kind (now (frame .entry)) (now (rows .entry))) (length (now (frame .entry)))
+// A frame read as a kind: the order of the error codes is 41; 16; 9 for fewer than 16 bytes; 3 to 7; 9; 10 to 14; 15.
+pub(crate) fn read_parts(kind: Kind, frame: &[u8], ceiling: u32, rows: &mut [u32]) -> Parts
+    ensures { λ r. ⌜ PartsOf (readFrame ceiling kind (now (frame .entry)) (now (rows .entry))) (length (now (frame .entry)))
         r (now (rows .exit)) ⌝ }
 {
+    if !ceiling_ok(ceiling) {
+        return refused(BAD_CEILING);
+    }
     if rows.len() < ROW_NUMBERS {
         return refused(ROWS_SHORT);
     }
     if frame.len() < HEADER {
         return refused(WRONG_FRAME); // "fewer than 16 bytes is 9"
     }
-    let fixed = parse_header(&frame[..HEADER]);
+    let fixed = parse_header(&frame[..HEADER], ceiling);
     match fixed {
         Parsed::Refused(code) => refused(code),
         Parsed::Good(header) => read_whole(kind, frame, header, rows),

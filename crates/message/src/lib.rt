@@ -26,12 +26,13 @@ pub struct Located {
     pub attachment: Span,
 }
 
-// Reads a frame as the kind that the caller expects. The map rows go to the first 256 of the lent numbers, four to a row.
-pub fn read_spans(kind: Kind, frame: &[u8], rows: &mut [u32]) -> Located
-    ensures { λ r. ⌜ (r ≡ spansOf (readFrame kind (now (frame .entry)) (now (rows .entry))) (length (now (frame .entry))))
-        × (now (rows .exit) ≡ readFrame kind (now (frame .entry)) (now (rows .entry)) .rows) ⌝ }
+// Reads a frame as the kind that the caller expects, under its connection's ceiling. The map rows go to the first 256 of
+// the lent numbers, four to a row.
+pub fn read_spans(kind: Kind, frame: &[u8], ceiling: u32, rows: &mut [u32]) -> Located
+    ensures { λ r. ⌜ (r ≡ spansOf (readFrame ceiling kind (now (frame .entry)) (now (rows .entry))) (length (now (frame .entry))))
+        × (now (rows .exit) ≡ readFrame ceiling kind (now (frame .entry)) (now (rows .entry)) .rows) ⌝ }
 {
-    let parts = read_parts(kind, frame, rows);
+    let parts = read_parts(kind, frame, ceiling, rows);
     let answer = parts.answer;
     let places = parts.places;
     Located {

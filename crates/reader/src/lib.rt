@@ -22,17 +22,19 @@ pub struct Reading<'a> {
     pub attachment: &'a [u8],
 }
 
-// Reads a frame as the kind that the caller expects. The map rows go to the first 256 of the lent numbers, four to a row.
-pub fn read<'a, 'b>(kind: Kind, frame: &'a [u8], rows: &'b mut [u32]) -> Reading<'a>
-    ensures { λ r. ⌜ ((r .answer ≡ readFrame kind (now (frame .entry)) (now (rows .entry)) .answer)
-        × (now (r .header) ≡ readFrame kind (now (frame .entry)) (now (rows .entry)) .header)
-        × (now (r .body) ≡ readFrame kind (now (frame .entry)) (now (rows .entry)) .body)
-        × (now (r .attachment) ≡ readFrame kind (now (frame .entry)) (now (rows .entry)) .attachment)
-        × (now (rows .exit) ≡ readFrame kind (now (frame .entry)) (now (rows .entry)) .rows))
-        × PartsStand (frame .entry .ptr) (spansOf (readFrame kind (now (frame .entry)) (now (rows .entry))) (length (now (frame .entry))))
+// Reads a frame as the kind that the caller expects, under its connection's ceiling. The map rows go to the first 256 of
+// the lent numbers, four to a row.
+pub fn read<'a, 'b>(kind: Kind, frame: &'a [u8], ceiling: u32, rows: &'b mut [u32]) -> Reading<'a>
+    ensures { λ r. ⌜ ((r .answer ≡ readFrame ceiling kind (now (frame .entry)) (now (rows .entry)) .answer)
+        × (now (r .header) ≡ readFrame ceiling kind (now (frame .entry)) (now (rows .entry)) .header)
+        × (now (r .body) ≡ readFrame ceiling kind (now (frame .entry)) (now (rows .entry)) .body)
+        × (now (r .attachment) ≡ readFrame ceiling kind (now (frame .entry)) (now (rows .entry)) .attachment)
+        × (now (rows .exit) ≡ readFrame ceiling kind (now (frame .entry)) (now (rows .entry)) .rows))
+        × PartsStand (frame .entry .ptr)
+        (spansOf (readFrame ceiling kind (now (frame .entry)) (now (rows .entry))) (length (now (frame .entry))))
         (r .header .ptr) (r .body .ptr) (r .attachment .ptr) ⌝ }
 {
-    let located = read_spans(kind, frame, rows);
+    let located = read_spans(kind, frame, ceiling, rows);
     Reading {
         answer: located.answer,
         header: header_of(frame, located),

@@ -7,7 +7,7 @@ use mathlib.Core.Path.{_≡_}
 use mathlib.Core.List.{List, [], _∷_}
 use Rattle.refusals.specs.Grounds.{Some}
 
--- cutter, end: "buffer under 65,536 bytes"
+-- cutter, end: "buffer under 65,536 bytes"; document 02, P11: "1, 6 and 19 speak of the ceiling"
 abbrev pub bufferShort : ℕ
 bufferShort = 1
 
@@ -27,7 +27,7 @@ badDataType = 4
 abbrev pub badStreamType : ℕ
 badStreamType = 5
 
--- header judge: "total"
+-- header judge: "total", 16 to the ceiling
 abbrev pub badTotal : ℕ
 badTotal = 6
 
@@ -76,7 +76,7 @@ pastSource = 17
 abbrev pub badRows : ℕ
 badRows = 18
 
--- writer: "frame over 65,536"
+-- writer: "frame over 65,536", the ceiling since P11
 abbrev pub frameOver : ℕ
 frameOver = 19
 
@@ -108,12 +108,16 @@ pairAbsent = 26
 abbrev pub outputShort : ℕ
 outputShort = 27
 
+-- header judge, cutter, end, reader, writer (document 02, P11): "ceiling outside the range, before all others"
+abbrev pub badCeiling : ℕ
+badCeiling = 41
+
 -- all numbers in use, rising
 abbrev pub inUse : List ℕ
 inUse =
     bufferShort ∷ stateUnknown ∷ badMagic ∷ badDataType ∷ badStreamType ∷ badTotal ∷ badHeaderSize ∷ wrongFrame ∷
     badVarint ∷ badTag ∷ pastEnd ∷ tooDeep ∷ tooManyEntries ∷ badBody ∷ rowsShort ∷ pastSource ∷ badRows ∷ frameOver ∷
-    queueFull ∷ lateArrival ∷ queueEmpty ∷ badQueue ∷ pairWaits ∷ pairAbsent ∷ outputShort ∷ []
+    queueFull ∷ lateArrival ∷ queueEmpty ∷ badQueue ∷ pairWaits ∷ pairAbsent ∷ outputShort ∷ badCeiling ∷ []
 
 -- numbers that a request took out of use, rising. Document 02: "8 is no longer given and isn't used for anything else"; "20 is never used
 -- again."

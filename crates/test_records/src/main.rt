@@ -28,6 +28,9 @@ use records::Record;
 use records::Span;
 use schema::Kind;
 
+// The ceiling that frames are read under: document 01's largest frame.
+const CEILING: u32 = 65536;
+
 // What the input calls the kinds.
 fn kind_of(number: u8) -> Kind {
     match number {
@@ -42,16 +45,16 @@ fn kind_of(number: u8) -> Kind {
 
 // The body that `reader::read` hands out. The reading holds references, so all that is done with it here is to take one part out; the
 // other parts are taken from `read_spans`, on which `read` rests.
-fn body_part<'a, 'b>(kind: Kind, frame: &'a [u8], rows: &'b mut [u32]) -> &'a [u8] {
-    let reading = reader::read(kind, frame, rows);
+fn body_part<'a, 'b>(kind: Kind, frame: &'a [u8], ceiling: u32, rows: &'b mut [u32]) -> &'a [u8] {
+    let reading = reader::read(kind, frame, ceiling, rows);
     reading.body
 }
 
 // Reads a frame and prints its parts, its record or the error code, and its rows. Reading it again leaves the row numbers as they are.
 fn print_frame(kind: Kind, frame: &[u8], rows: &mut [u32]) {
     fill(rows);
-    let located = read_spans(kind, frame, rows);
-    print_parts(located, body_part(kind, frame, rows), frame);
+    let located = read_spans(kind, frame, CEILING, rows);
+    print_parts(located, body_part(kind, frame, CEILING, rows), frame);
     print_answer(answer_of(located), frame, rows);
 }
 

@@ -15,6 +15,7 @@ mod lines;
 mod output;
 mod record;
 
+use fixed_header::MAX_FRAME;
 use input::read_numbers;
 use input::read_part;
 use input::read_repeated;
@@ -38,10 +39,10 @@ fn print_frame(out: &[u8], size: usize) -> usize {
     size
 }
 
-// Writes a record and prints what became of the output.
+// Writes a record under the largest ceiling and prints what became of the output.
 fn print_written(record: Record, source: &[u8], rows: &[u32], body: &[u8], out: &mut [u8]) {
     fill(out);
-    let encoded = writer::write(record, source, rows, body, out);
+    let encoded = writer::write(record, source, rows, body, out, MAX_FRAME as u32);
     let end = match encoded {
         Encoded::Frame(size) => print_frame(out, size),
         Encoded::Refused(code) => {

@@ -1,8 +1,8 @@
 -- For a user in C: the judge of a fixed header, and what a header says.
 --
--- Promised, of any bytes: whatever a call of `trpc_header_parse` gave, if it gave what its contract ensures, then the number returned and
--- the five numbers together say what the header says, or its error code (`header-told`), and the number returned is the one that
--- `trpc_header_check` returns (`same-code`). Nothing else is known of a call (`proofs/Contracts`).
+-- Promised, of any ceiling and any bytes: whatever a call of `trpc_header_parse` gave, if it gave what its contract ensures, then the
+-- number returned and the five numbers together say what the header says, or its error code (`header-told`), and the number returned is the
+-- one that `trpc_header_check` returns under the same ceiling (`same-code`). Nothing else is known of a call (`proofs/Contracts`).
 -- Not promised: anything of the bytes after the 16, or of a frame that such a header begins.
 -- Ruled out: a header that is reported with another type, total, header size, id or version than it has, and a number of the five that no
 -- contract speaks of.
@@ -46,19 +46,19 @@ back (Good h) t =
     })) (type-back (h .«frame_type»))
 back (Refused code) t = rw (ne-eqb code 0 t) refl
 
-told : (bytes : List ℕ) → Told (parsed bytes)
+told : (c : ℕ) (bytes : List ℕ) → Told (parsed c bytes)
 unfolding parsed
-told bytes = choose Told (eqb (headerError bytes) 0) _ _ (λ e. tt) (λ e. eqb-false (headerError bytes) 0 e)
+told c bytes = choose Told (eqb (headerError c bytes) 0) _ _ (λ e. tt) (λ e. eqb-false (headerError c bytes) 0 e)
 
-pub header-told : (bytes : List ℕ) (x : CParsed) → CParses bytes x → headerFrom x ≡ parsed bytes
-header-told bytes x e = ap headerFrom (all-parsed bytes x e) ∙ back (parsed bytes) (told bytes)
+pub header-told : (c : ℕ) (bytes : List ℕ) (x : CParsed) → CParses c bytes x → headerFrom x ≡ parsed c bytes
+header-told c bytes x e = ap headerFrom (all-parsed c bytes x e) ∙ back (parsed c bytes) (told c bytes)
 
 -- "Returns a code of enum trpc_header_error, the one that trpc_header_check returns."
-parsed-code : (bytes : List ℕ) → parsedError (parsed bytes) ≡ headerError bytes
+parsed-code : (c : ℕ) (bytes : List ℕ) → parsedError (parsed c bytes) ≡ headerError c bytes
 unfolding parsed
-parsed-code bytes =
-    choose (λ (p : Parsed). parsedError p ≡ headerError bytes) (eqb (headerError bytes) 0) _ _
-    (λ e. sym (eqb-true (headerError bytes) 0 e)) (λ e. refl)
+parsed-code c bytes =
+    choose (λ (p : Parsed). parsedError p ≡ headerError c bytes) (eqb (headerError c bytes) 0) _ _
+    (λ e. sym (eqb-true (headerError c bytes) 0 e)) (λ e. refl)
 
-pub same-code : (bytes : List ℕ) (code : ℕ) (x : CParsed) → CChecks bytes code → CParses bytes x → x .code ≡ code
-same-code bytes code x c e = e .code-is ∙ parsed-code bytes ∙ sym c
+pub same-code : (c : ℕ) (bytes : List ℕ) (code : ℕ) (x : CParsed) → CChecks c bytes code → CParses c bytes x → x .code ≡ code
+same-code c bytes code x checks parses = parses .code-is ∙ parsed-code c bytes ∙ sym checks

@@ -1,6 +1,6 @@
 -- For a user in C: all versions are accepted, and byte 16 is ignored (document 02, P2).
 --
--- Promised, of any calls that gave what their contracts ensure:
+-- Promised, of any two calls under one ceiling, whatever it is, that gave what their contracts ensure:
 -- `c-only-the-version`: of two frames of one length that agree on their first 14 bytes and on all bytes after the 16th, read as one kind
 -- with the same row numbers lent, a reader returns the same number, leaves the same row numbers, and gives the same first 24 numbers of the
 -- record. The 25th is the version (`read-of`).
@@ -10,7 +10,8 @@
 -- `c-step-alike`: of two calls of `trpc_deframe` with one state, buffers of one length and pieces of one length, where the bytes held with
 -- the piece after them agree on their first 14, all numbers are the same: what is returned, `held`, `error`, `taken` and `size`.
 -- `c-end-alike`: with one state, of two buffers of one length that agree on their first 14 bytes, `trpc_finish` gives the same.
--- Not promised: anything of frames of different lengths, nor that the buffers are the same after two calls of `trpc_deframe`.
+-- Not promised: anything of frames of different lengths or of two calls under two ceilings, nor that the buffers are the same after two
+-- calls of `trpc_deframe`.
 -- Ruled out: a deframer, a reader or a judge that refuses a version, one that looks at byte 16, and a number of a record, other than its
 -- last, that is taken from either.
 -- Assumes nothing.
@@ -64,14 +65,14 @@ numbers-alike v (Read (Close r)) header body attachment = refl
 numbers-alike v (Refused code) header body attachment = refl
 
 -- ---- two calls of the reader of a kind: x is what the call on f gave, y what the call on g gave
-module _ (kind : Kind) (f g lent : List ℕ) (x y : CRead) (long : length f ≡ length g) where
-  pub c-only-the-version : take 14 f ≡ take 14 g → drop 16 f ≡ drop 16 g → CReads kind f lent x → CReads kind g lent y
+module _ (c : ℕ) (kind : Kind) (f g lent : List ℕ) (x y : CRead) (long : length f ≡ length g) where
+  pub c-only-the-version : take 14 f ≡ take 14 g → drop 16 f ≡ drop 16 g → CReads c kind f lent x → CReads c kind g lent y
       → (x .code ≡ y .code) × ((x .rows ≡ y .rows) × (take 24 (x .numbers) ≡ take 24 (y .numbers)))
   c-only-the-version front tail reads-f reads-g =
-      let given = readFrame kind f lent in
+      let given = readFrame c kind f lent in
       let later : readC f (readingVersioned (versionOf g) given) ≡ y =
-      ap₂ readSized long (sym (only-the-version kind f g lent long front tail))
-      ∙ sym (all-read kind g lent y reads-g) in (
+      ap₂ readSized long (sym (only-the-version c kind f g lent long front tail))
+      ∙ sym (all-read c kind g lent y reads-g) in (
         reads-f .code-is ∙ code-alike (versionOf g) (given .answer) ∙ ap (λ (z : CRead). z .code) later,
         (
           reads-f .rows-are ∙ ap (λ (z : CRead). z .rows) later,
@@ -80,36 +81,38 @@ module _ (kind : Kind) (f g lent : List ℕ) (x y : CRead) (long : length f ≡ 
         ),
       )
 
-  pub c-byte-16-ignored : take 15 f ≡ take 15 g → drop 16 f ≡ drop 16 g → CReads kind f lent x → CReads kind g lent y → x ≡ y
+  pub c-byte-16-ignored : take 15 f ≡ take 15 g → drop 16 f ≡ drop 16 g → CReads c kind f lent x → CReads c kind g lent y → x ≡ y
   c-byte-16-ignored front tail reads-f reads-g =
-      all-read kind f lent x reads-f
-      ∙ ap₂ readSized long (sym (byte-16-ignored kind f g lent long front tail))
-      ∙ sym (all-read kind g lent y reads-g)
+      all-read c kind f lent x reads-f
+      ∙ ap₂ readSized long (sym (byte-16-ignored c kind f g lent long front tail))
+      ∙ sym (all-read c kind g lent y reads-g)
 
 -- ---- two calls of a function over a fixed header
-pub c-last-two-ignored : (a b : List ℕ) (m n : ℕ) → length a ≡ length b → take 14 a ≡ take 14 b → CChecks a m → CChecks b n → m ≡ n
-c-last-two-ignored a b m n long front checks-a checks-b = checks-a ∙ last-two-ignored a b front long ∙ sym checks-b
+pub c-last-two-ignored : (c : ℕ) (a b : List ℕ) (m n : ℕ) → length a ≡ length b → take 14 a ≡ take 14 b
+    → CChecks c a m → CChecks c b n → m ≡ n
+c-last-two-ignored c a b m n long front checks-a checks-b = checks-a ∙ last-two-ignored a b front c long ∙ sym checks-b
 
-pub c-byte-16-unparsed : (a b : List ℕ) (x y : CParsed) → length a ≡ length b → take 15 a ≡ take 15 b → CParses a x → CParses b y → x ≡ y
-c-byte-16-unparsed a b x y long front parses-a parses-b =
-    all-parsed a x parses-a ∙ ap parsedC (byte-16-unparsed a b front long) ∙ sym (all-parsed b y parses-b)
+pub c-byte-16-unparsed : (c : ℕ) (a b : List ℕ) (x y : CParsed) → length a ≡ length b → take 15 a ≡ take 15 b
+    → CParses c a x → CParses c b y → x ≡ y
+c-byte-16-unparsed c a b x y long front parses-a parses-b =
+    all-parsed c a x parses-a ∙ ap parsedC (byte-16-unparsed a b front c long) ∙ sym (all-parsed c b y parses-b)
 
 -- ---- two calls of the deframer with one state, and two ends of a stream
-module _ (held error : ℕ) (b c : List ℕ) (long : length b ≡ length c) where
+module _ (c held error : ℕ) (a b : List ℕ) (long : length a ≡ length b) where
   abbrev state : Deframer
   state = deframerOf held error
 
-  pub c-end-alike : take 14 b ≡ take 14 c → (x y : CFinished) → CFinishes held error b x → CFinishes held error c y → x ≡ y
-  c-end-alike front x y ends-b ends-c =
-      all-finished held error b x ends-b ∙ ap finishedC (end-alike state b c long front) ∙ sym (all-finished held error c y ends-c)
+  pub c-end-alike : take 14 a ≡ take 14 b → (x y : CFinished) → CFinishes c held error a x → CFinishes c held error b y → x ≡ y
+  c-end-alike front x y ends-a ends-b =
+      all-finished c held error a x ends-a ∙ ap finishedC (end-alike c state a b long front) ∙ sym (all-finished c held error b y ends-b)
 
-  pub c-step-alike : (p q : List ℕ) → length p ≡ length q → take 14 (stream held b p) ≡ take 14 (stream held c q)
-      → (x y : CDeframed) → CDeframes held error b p x → CDeframes held error c q y
+  pub c-step-alike : (p q : List ℕ) → length p ≡ length q → take 14 (stream held a p) ≡ take 14 (stream held b q)
+      → (x y : CDeframed) → CDeframes c held error a p x → CDeframes c held error b q y
       → (x .code ≡ y .code) × (x .held ≡ y .held) × (x .error ≡ y .error) × (x .taken ≡ y .taken) × (x .size ≡ y .size)
-  c-step-alike p q pieces streams x y cuts-b cuts-c =
-      let same = step-alike state b c long p q pieces streams in
-      let is-x = all-deframed held error b p x cuts-b in
-      let is-y = all-deframed held error c q y cuts-c in
+  c-step-alike p q pieces streams x y cuts-a cuts-b =
+      let same = step-alike c state a b long p q pieces streams in
+      let is-x = all-deframed c held error a p x cuts-a in
+      let is-y = all-deframed c held error b q y cuts-b in
       rw (is-x, is-y) (
         ap (λ (s : Step). progressError (s .progress)) same,
         ap (λ (s : Step). s .next .held) same,

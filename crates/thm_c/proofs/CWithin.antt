@@ -1,8 +1,8 @@
 -- For a user in C: `len` bytes at `frame + start` may be read.
 --
--- Promised, of any call of a reader, for any kind, frame and row numbers: if it gave what its contract ensures, then each start and length
--- among its numbers, of header, body, attachment and byte fields, and each key and value of the rows that it counts lies within the frame,
--- and an empty one is 0, 0. It holds whatever the call returned: after a refusal all of them are 0, 0.
+-- Promised, of any call of a reader, for any ceiling, kind, frame and row numbers: if it gave what its contract ensures, then each start
+-- and length among its numbers, of header, body, attachment and byte fields, and each key and value of the rows that it counts lies within
+-- the frame, and an empty one is 0, 0. It holds whatever the call returned: after a refusal all of them are 0, 0.
 -- Not promised: which bytes are there (`read-of` says it), and anything of the row numbers past the rows that are counted.
 -- Ruled out: a length that passes the end of the frame, and an end given for a length.
 use Prim.Native.Nat.{ℕ, _%_}
@@ -45,9 +45,9 @@ module _ (frame : List ℕ) (kind : Kind) where
   zero-handed code rows =
       (record-lies frame kind 0 0 (blank .slots) 0 (blank-lies frame kind), rw (count-is 0 0 (blank .slots) 0 kind) tt)
 
-  module _ (lent : List ℕ) where
+  module _ (c : ℕ) (lent : List ℕ) where
     abbrev given : Reading
-    given = readFrame kind frame lent
+    given = readFrame c kind frame lent
 
     abbrev gave : Located
     gave = located given (length frame)
@@ -56,7 +56,7 @@ module _ (frame : List ℕ) (kind : Kind) where
         → Every (RowLies (length frame)) (rowsIn (countedIn a) (given .rows))
         → Handed (given .rows) (recordFrom kind (numbersOf gave))
     handed (answers.Read r) e fields rows =
-        subst (Handed (given .rows)) (sym (reading-back kind frame lent (length frame) r e)) (fields, rows)
+        subst (Handed (given .rows)) (sym (reading-back c kind frame lent (length frame) r e)) (fields, rows)
     handed (answers.Refused code) e fields rows =
         subst (λ (a : Answer). Handed (given .rows) (recordOf kind (answerId a) (getD (answerSlots a ++ answerVersion a ∷ []) 16 0 % 256)
         (take slotCount (answerSlots a ++ answerVersion a ∷ [])) (answerRows a))) (sym e)
@@ -64,13 +64,13 @@ module _ (frame : List ℕ) (kind : Kind) where
 
     numbers-within : ReadWithin frame (locatedFrom kind (numbersOf gave)) (given .rows)
     numbers-within =
-        let all = read-within frame kind lent in
+        let all = read-within c frame kind lent in
         let own = handed (given .answer) refl (all .fields) (all .rows) in
         record { fields = own .0; rows = own .1; header = all .header; body = all .body; attachment = all .attachment }
 
-pub c-read-within : (kind : Kind) (frame lent : List ℕ) (x : CRead) → CReads kind frame lent x
+pub c-read-within : (c : ℕ) (kind : Kind) (frame lent : List ℕ) (x : CRead) → CReads c kind frame lent x
     → ReadWithin frame (locatedFrom kind (x .numbers)) (x .rows)
-c-read-within kind frame lent x reads =
+c-read-within c kind frame lent x reads =
     subst (λ (l : List ℕ). ReadWithin frame (locatedFrom kind l) (x .rows)) (sym (reads .numbers-are))
-    (subst (ReadWithin frame (locatedFrom kind (numbersOf (located (readFrame kind frame lent) (length frame))))) (sym (reads .rows-are))
-    (numbers-within frame kind lent))
+    (subst (ReadWithin frame (locatedFrom kind (numbersOf (located (readFrame c kind frame lent) (length frame))))) (sym (reads .rows-are))
+    (numbers-within frame kind c lent))

@@ -39,105 +39,114 @@ use Rattle.thm_c.specs.RoundTrip.{CWritten, CWrites}
 
 -- what is lent, and what is in it afterwards
 module _ {M : Type 1} (𝓤 : URA M) (H : Heap 𝓤) (A : Atoms 𝓤) (mem : Memory → SProp 𝓤) (run : Routine → Fun 𝓤) (a b c d e f : Lft) where
-  pub trpc-header-check-ensures : (bytes : RefT (List ℕ)) (code : ℕ)
-      → header-check.clauses 𝓤 H A mem run (a, tt) (bytes, tt) .ensures tt code (atExit header-check.ended (a, tt) (bytes, tt) (tt, tt))
-      ≡ fact 𝓤 (CChecks (now bytes) code)
-  trpc-header-check-ensures bytes code = refl
+  pub trpc-header-check-ensures : (bytes : RefT (List ℕ)) (ceiling code : ℕ)
+      → header-check.clauses 𝓤 H A mem run (a, tt) (bytes, (ceiling, tt)) .ensures tt code
+      (atExit header-check.ended (a, tt) (bytes, (ceiling, tt)) (tt, (tt, tt)))
+      ≡ fact 𝓤 (CChecks ceiling (now bytes) code)
+  trpc-header-check-ensures bytes ceiling code = refl
 
-  pub trpc-header-parse-ensures : (bytes : RefT (List ℕ)) (frame-type total header-size id version : RefT ℕ) (x : CParsed)
+  pub trpc-header-parse-ensures : (bytes : RefT (List ℕ)) (ceiling : ℕ) (frame-type total header-size id version : RefT ℕ) (x : CParsed)
       → header-parse.clauses 𝓤 H A mem run (a, (b, (c, (d, (e, (f, tt))))))
-      (bytes, (frame-type, (total, (header-size, (id, (version, tt)))))) .ensures tt (x .code)
-      (atExit header-parse.ended (a, (b, (c, (d, (e, (f, tt)))))) (bytes, (frame-type, (total, (header-size, (id, (version, tt))))))
-      (tt, (x .frame-type, (x .total, (x .header-size, (x .id, (x .version, tt)))))))
-      ≡ fact 𝓤 (CParses (now bytes) x)
-  trpc-header-parse-ensures bytes frame-type total header-size id version x = refl
+      (bytes, (ceiling, (frame-type, (total, (header-size, (id, (version, tt))))))) .ensures tt (x .code)
+      (atExit header-parse.ended (a, (b, (c, (d, (e, (f, tt))))))
+      (bytes, (ceiling, (frame-type, (total, (header-size, (id, (version, tt)))))))
+      (tt, (tt, (x .frame-type, (x .total, (x .header-size, (x .id, (x .version, tt))))))))
+      ≡ fact 𝓤 (CParses ceiling (now bytes) x)
+  trpc-header-parse-ensures bytes ceiling frame-type total header-size id version x = refl
 
-  pub trpc-deframe-ensures : (held error : RefT ℕ) (buffer piece : RefT (List ℕ)) (taken size : RefT ℕ) (x : CDeframed)
+  pub trpc-deframe-ensures : (held error : RefT ℕ) (buffer : RefT (List ℕ)) (ceiling : ℕ) (piece : RefT (List ℕ)) (taken size : RefT ℕ)
+      (x : CDeframed)
       → deframe.clauses 𝓤 H A mem run (a, (b, (c, (d, (e, (f, tt))))))
-      (held, (error, (buffer, (piece, (taken, (size, tt)))))) .ensures tt (x .code)
-      (atExit deframe.ended (a, (b, (c, (d, (e, (f, tt)))))) (held, (error, (buffer, (piece, (taken, (size, tt))))))
-      (x .held, (x .error, (x .buffer, (tt, (x .taken, (x .size, tt)))))))
-      ≡ fact 𝓤 (CDeframes (now held) (now error) (now buffer) (now piece) x)
-  trpc-deframe-ensures held error buffer piece taken size x = refl
+      (held, (error, (buffer, (ceiling, (piece, (taken, (size, tt))))))) .ensures tt (x .code)
+      (atExit deframe.ended (a, (b, (c, (d, (e, (f, tt)))))) (held, (error, (buffer, (ceiling, (piece, (taken, (size, tt)))))))
+      (x .held, (x .error, (x .buffer, (tt, (tt, (x .taken, (x .size, tt))))))))
+      ≡ fact 𝓤 (CDeframes ceiling (now held) (now error) (now buffer) (now piece) x)
+  trpc-deframe-ensures held error buffer ceiling piece taken size x = refl
 
-  pub trpc-finish-ensures : (held error : ℕ) (buffer : RefT (List ℕ)) (short : RefT ℕ) (x : CFinished)
-      → finish.clauses 𝓤 H A mem run (a, (b, tt)) (held, (error, (buffer, (short, tt)))) .ensures tt (x .code)
-      (atExit finish.ended (a, (b, tt)) (held, (error, (buffer, (short, tt)))) (tt, (tt, (tt, (x .short-by, tt)))))
-      ≡ fact 𝓤 (CFinishes held error (now buffer) x)
-  trpc-finish-ensures held error buffer short x = refl
+  pub trpc-finish-ensures : (held error : ℕ) (buffer : RefT (List ℕ)) (ceiling : ℕ) (short : RefT ℕ) (x : CFinished)
+      → finish.clauses 𝓤 H A mem run (a, (b, tt)) (held, (error, (buffer, (ceiling, (short, tt))))) .ensures tt (x .code)
+      (atExit finish.ended (a, (b, tt)) (held, (error, (buffer, (ceiling, (short, tt))))) (tt, (tt, (tt, (tt, (x .short-by, tt))))))
+      ≡ fact 𝓤 (CFinishes ceiling held error (now buffer) x)
+  trpc-finish-ensures held error buffer ceiling short x = refl
 
   -- the six readers, which lend one frame, row numbers and the record
-  module _ (frame rows numbers : RefT (List ℕ)) (x : CRead) where
-    pub trpc-read-request-ensures : read-request.clauses 𝓤 H A mem run (a, (b, (c, tt))) (frame, (rows, (numbers, tt))) .ensures tt
-        (x .code) (atExit read-request.ended (a, (b, (c, tt))) (frame, (rows, (numbers, tt))) (tt, (x .rows, (x .numbers, tt))))
-        ≡ fact 𝓤 (CReads kinds.Request (now frame) (now rows) x)
+  module _ (frame : RefT (List ℕ)) (ceiling : ℕ) (rows numbers : RefT (List ℕ)) (x : CRead) where
+    pub trpc-read-request-ensures :
+        read-request.clauses 𝓤 H A mem run (a, (b, (c, tt))) (frame, (ceiling, (rows, (numbers, tt)))) .ensures tt (x .code)
+        (atExit read-request.ended (a, (b, (c, tt))) (frame, (ceiling, (rows, (numbers, tt)))) (tt, (tt, (x .rows, (x .numbers, tt)))))
+        ≡ fact 𝓤 (CReads ceiling kinds.Request (now frame) (now rows) x)
     trpc-read-request-ensures = refl
 
-    pub trpc-read-response-ensures : read-response.clauses 𝓤 H A mem run (a, (b, (c, tt))) (frame, (rows, (numbers, tt))) .ensures tt
-        (x .code) (atExit read-response.ended (a, (b, (c, tt))) (frame, (rows, (numbers, tt))) (tt, (x .rows, (x .numbers, tt))))
-        ≡ fact 𝓤 (CReads kinds.Response (now frame) (now rows) x)
+    pub trpc-read-response-ensures :
+        read-response.clauses 𝓤 H A mem run (a, (b, (c, tt))) (frame, (ceiling, (rows, (numbers, tt)))) .ensures tt (x .code)
+        (atExit read-response.ended (a, (b, (c, tt))) (frame, (ceiling, (rows, (numbers, tt)))) (tt, (tt, (x .rows, (x .numbers, tt)))))
+        ≡ fact 𝓤 (CReads ceiling kinds.Response (now frame) (now rows) x)
     trpc-read-response-ensures = refl
 
-    pub trpc-read-init-ensures : read-init.clauses 𝓤 H A mem run (a, (b, (c, tt))) (frame, (rows, (numbers, tt))) .ensures tt
-        (x .code) (atExit read-init.ended (a, (b, (c, tt))) (frame, (rows, (numbers, tt))) (tt, (x .rows, (x .numbers, tt))))
-        ≡ fact 𝓤 (CReads kinds.Init (now frame) (now rows) x)
+    pub trpc-read-init-ensures :
+        read-init.clauses 𝓤 H A mem run (a, (b, (c, tt))) (frame, (ceiling, (rows, (numbers, tt)))) .ensures tt (x .code)
+        (atExit read-init.ended (a, (b, (c, tt))) (frame, (ceiling, (rows, (numbers, tt)))) (tt, (tt, (x .rows, (x .numbers, tt)))))
+        ≡ fact 𝓤 (CReads ceiling kinds.Init (now frame) (now rows) x)
     trpc-read-init-ensures = refl
 
-    pub trpc-read-data-ensures : read-data.clauses 𝓤 H A mem run (a, (b, (c, tt))) (frame, (rows, (numbers, tt))) .ensures tt
-        (x .code) (atExit read-data.ended (a, (b, (c, tt))) (frame, (rows, (numbers, tt))) (tt, (x .rows, (x .numbers, tt))))
-        ≡ fact 𝓤 (CReads kinds.Data (now frame) (now rows) x)
+    pub trpc-read-data-ensures :
+        read-data.clauses 𝓤 H A mem run (a, (b, (c, tt))) (frame, (ceiling, (rows, (numbers, tt)))) .ensures tt (x .code)
+        (atExit read-data.ended (a, (b, (c, tt))) (frame, (ceiling, (rows, (numbers, tt)))) (tt, (tt, (x .rows, (x .numbers, tt)))))
+        ≡ fact 𝓤 (CReads ceiling kinds.Data (now frame) (now rows) x)
     trpc-read-data-ensures = refl
 
-    pub trpc-read-feedback-ensures : read-feedback.clauses 𝓤 H A mem run (a, (b, (c, tt))) (frame, (rows, (numbers, tt))) .ensures tt
-        (x .code) (atExit read-feedback.ended (a, (b, (c, tt))) (frame, (rows, (numbers, tt))) (tt, (x .rows, (x .numbers, tt))))
-        ≡ fact 𝓤 (CReads kinds.Feedback (now frame) (now rows) x)
+    pub trpc-read-feedback-ensures :
+        read-feedback.clauses 𝓤 H A mem run (a, (b, (c, tt))) (frame, (ceiling, (rows, (numbers, tt)))) .ensures tt (x .code)
+        (atExit read-feedback.ended (a, (b, (c, tt))) (frame, (ceiling, (rows, (numbers, tt)))) (tt, (tt, (x .rows, (x .numbers, tt)))))
+        ≡ fact 𝓤 (CReads ceiling kinds.Feedback (now frame) (now rows) x)
     trpc-read-feedback-ensures = refl
 
-    pub trpc-read-close-ensures : read-close.clauses 𝓤 H A mem run (a, (b, (c, tt))) (frame, (rows, (numbers, tt))) .ensures tt
-        (x .code) (atExit read-close.ended (a, (b, (c, tt))) (frame, (rows, (numbers, tt))) (tt, (x .rows, (x .numbers, tt))))
-        ≡ fact 𝓤 (CReads kinds.Close (now frame) (now rows) x)
+    pub trpc-read-close-ensures :
+        read-close.clauses 𝓤 H A mem run (a, (b, (c, tt))) (frame, (ceiling, (rows, (numbers, tt)))) .ensures tt (x .code)
+        (atExit read-close.ended (a, (b, (c, tt))) (frame, (ceiling, (rows, (numbers, tt)))) (tt, (tt, (x .rows, (x .numbers, tt)))))
+        ≡ fact 𝓤 (CReads ceiling kinds.Close (now frame) (now rows) x)
     trpc-read-close-ensures = refl
 
   -- the six writers
-  module _ (numbers source rows body out : RefT (List ℕ)) (size : RefT ℕ) (x : CWritten) where
+  module _ (numbers source rows body out : RefT (List ℕ)) (ceiling : ℕ) (size : RefT ℕ) (x : CWritten) where
     pub trpc-write-request-ensures : write-request.clauses 𝓤 H A mem run (a, (b, (c, (d, (e, (f, tt))))))
-        (numbers, (source, (rows, (body, (out, (size, tt)))))) .ensures tt (x .code)
-        (atExit write-request.ended (a, (b, (c, (d, (e, (f, tt)))))) (numbers, (source, (rows, (body, (out, (size, tt))))))
-        (tt, (tt, (tt, (tt, (x .out, (x .size, tt)))))))
-        ≡ fact 𝓤 (CWrites kinds.Request (now numbers) (now source) (now rows) (now body) (now out) x)
+        (numbers, (source, (rows, (body, (out, (ceiling, (size, tt))))))) .ensures tt (x .code)
+        (atExit write-request.ended (a, (b, (c, (d, (e, (f, tt)))))) (numbers, (source, (rows, (body, (out, (ceiling, (size, tt)))))))
+        (tt, (tt, (tt, (tt, (x .out, (tt, (x .size, tt))))))))
+        ≡ fact 𝓤 (CWrites ceiling kinds.Request (now numbers) (now source) (now rows) (now body) (now out) x)
     trpc-write-request-ensures = refl
 
     pub trpc-write-response-ensures : write-response.clauses 𝓤 H A mem run (a, (b, (c, (d, (e, (f, tt))))))
-        (numbers, (source, (rows, (body, (out, (size, tt)))))) .ensures tt (x .code)
-        (atExit write-response.ended (a, (b, (c, (d, (e, (f, tt)))))) (numbers, (source, (rows, (body, (out, (size, tt))))))
-        (tt, (tt, (tt, (tt, (x .out, (x .size, tt)))))))
-        ≡ fact 𝓤 (CWrites kinds.Response (now numbers) (now source) (now rows) (now body) (now out) x)
+        (numbers, (source, (rows, (body, (out, (ceiling, (size, tt))))))) .ensures tt (x .code)
+        (atExit write-response.ended (a, (b, (c, (d, (e, (f, tt)))))) (numbers, (source, (rows, (body, (out, (ceiling, (size, tt)))))))
+        (tt, (tt, (tt, (tt, (x .out, (tt, (x .size, tt))))))))
+        ≡ fact 𝓤 (CWrites ceiling kinds.Response (now numbers) (now source) (now rows) (now body) (now out) x)
     trpc-write-response-ensures = refl
 
     pub trpc-write-init-ensures : write-init.clauses 𝓤 H A mem run (a, (b, (c, (d, (e, (f, tt))))))
-        (numbers, (source, (rows, (body, (out, (size, tt)))))) .ensures tt (x .code)
-        (atExit write-init.ended (a, (b, (c, (d, (e, (f, tt)))))) (numbers, (source, (rows, (body, (out, (size, tt))))))
-        (tt, (tt, (tt, (tt, (x .out, (x .size, tt)))))))
-        ≡ fact 𝓤 (CWrites kinds.Init (now numbers) (now source) (now rows) (now body) (now out) x)
+        (numbers, (source, (rows, (body, (out, (ceiling, (size, tt))))))) .ensures tt (x .code)
+        (atExit write-init.ended (a, (b, (c, (d, (e, (f, tt)))))) (numbers, (source, (rows, (body, (out, (ceiling, (size, tt)))))))
+        (tt, (tt, (tt, (tt, (x .out, (tt, (x .size, tt))))))))
+        ≡ fact 𝓤 (CWrites ceiling kinds.Init (now numbers) (now source) (now rows) (now body) (now out) x)
     trpc-write-init-ensures = refl
 
     pub trpc-write-data-ensures : write-data.clauses 𝓤 H A mem run (a, (b, (c, (d, (e, (f, tt))))))
-        (numbers, (source, (rows, (body, (out, (size, tt)))))) .ensures tt (x .code)
-        (atExit write-data.ended (a, (b, (c, (d, (e, (f, tt)))))) (numbers, (source, (rows, (body, (out, (size, tt))))))
-        (tt, (tt, (tt, (tt, (x .out, (x .size, tt)))))))
-        ≡ fact 𝓤 (CWrites kinds.Data (now numbers) (now source) (now rows) (now body) (now out) x)
+        (numbers, (source, (rows, (body, (out, (ceiling, (size, tt))))))) .ensures tt (x .code)
+        (atExit write-data.ended (a, (b, (c, (d, (e, (f, tt)))))) (numbers, (source, (rows, (body, (out, (ceiling, (size, tt)))))))
+        (tt, (tt, (tt, (tt, (x .out, (tt, (x .size, tt))))))))
+        ≡ fact 𝓤 (CWrites ceiling kinds.Data (now numbers) (now source) (now rows) (now body) (now out) x)
     trpc-write-data-ensures = refl
 
     pub trpc-write-feedback-ensures : write-feedback.clauses 𝓤 H A mem run (a, (b, (c, (d, (e, (f, tt))))))
-        (numbers, (source, (rows, (body, (out, (size, tt)))))) .ensures tt (x .code)
-        (atExit write-feedback.ended (a, (b, (c, (d, (e, (f, tt)))))) (numbers, (source, (rows, (body, (out, (size, tt))))))
-        (tt, (tt, (tt, (tt, (x .out, (x .size, tt)))))))
-        ≡ fact 𝓤 (CWrites kinds.Feedback (now numbers) (now source) (now rows) (now body) (now out) x)
+        (numbers, (source, (rows, (body, (out, (ceiling, (size, tt))))))) .ensures tt (x .code)
+        (atExit write-feedback.ended (a, (b, (c, (d, (e, (f, tt)))))) (numbers, (source, (rows, (body, (out, (ceiling, (size, tt)))))))
+        (tt, (tt, (tt, (tt, (x .out, (tt, (x .size, tt))))))))
+        ≡ fact 𝓤 (CWrites ceiling kinds.Feedback (now numbers) (now source) (now rows) (now body) (now out) x)
     trpc-write-feedback-ensures = refl
 
     pub trpc-write-close-ensures : write-close.clauses 𝓤 H A mem run (a, (b, (c, (d, (e, (f, tt))))))
-        (numbers, (source, (rows, (body, (out, (size, tt)))))) .ensures tt (x .code)
-        (atExit write-close.ended (a, (b, (c, (d, (e, (f, tt)))))) (numbers, (source, (rows, (body, (out, (size, tt))))))
-        (tt, (tt, (tt, (tt, (x .out, (x .size, tt)))))))
-        ≡ fact 𝓤 (CWrites kinds.Close (now numbers) (now source) (now rows) (now body) (now out) x)
+        (numbers, (source, (rows, (body, (out, (ceiling, (size, tt))))))) .ensures tt (x .code)
+        (atExit write-close.ended (a, (b, (c, (d, (e, (f, tt)))))) (numbers, (source, (rows, (body, (out, (ceiling, (size, tt)))))))
+        (tt, (tt, (tt, (tt, (x .out, (tt, (x .size, tt))))))))
+        ≡ fact 𝓤 (CWrites ceiling kinds.Close (now numbers) (now source) (now rows) (now body) (now out) x)
     trpc-write-close-ensures = refl

@@ -15,17 +15,17 @@ use Rattle.thm_c.specs.Calls.{CDeframed, CDeframes, CFinished, CFinishes
 use Rattle.thm_c.specs.RoundTrip.{CWritten, CWrites}
 use Rattle.thm_c.specs.Entries.{parsedC, deframedC, finishedC, readC, writtenC}
 
-pub all-parsed : (bytes : List ℕ) (x : CParsed) → CParses bytes x → x ≡ parsedC (parsed bytes)
-all-parsed bytes x is = by (is .code-is) (is .type-is) (is .total-is) (is .header-size-is) (is .id-is) (is .version-is)
+pub all-parsed : (c : ℕ) (bytes : List ℕ) (x : CParsed) → CParses c bytes x → x ≡ parsedC (parsed c bytes)
+all-parsed c bytes x is = by (is .code-is) (is .type-is) (is .total-is) (is .header-size-is) (is .id-is) (is .version-is)
   where
     by : {code frame-type total header-size id version : ℕ} → x .code ≡ code → x .frame-type ≡ frame-type → x .total ≡ total
         → x .header-size ≡ header-size → x .id ≡ id → x .version ≡ version
         → x ≡ record { code = code; frame-type = frame-type; total = total; header-size = header-size; id = id; version = version }
     by a b c d e f = rw (← a, ← b, ← c, ← d, ← e, ← f)
 
-pub all-deframed : (held error : ℕ) (buffer piece : List ℕ) (x : CDeframed) → CDeframes held error buffer piece x
-    → x ≡ deframedC (deframedFrom held error buffer piece)
-all-deframed held error buffer piece x is =
+pub all-deframed : (c held error : ℕ) (buffer piece : List ℕ) (x : CDeframed) → CDeframes c held error buffer piece x
+    → x ≡ deframedC (deframedFrom c held error buffer piece)
+all-deframed c held error buffer piece x is =
     by (is .code-is) (ap (λ (s : Deframer). s .held) (is .state-is)) (ap (λ (s : Deframer). s .error) (is .state-is)) (is .buffer-is)
     (is .taken-is) (is .size-is)
   where
@@ -34,23 +34,24 @@ all-deframed held error buffer piece x is =
         → x ≡ record { code = code; held = held; error = error; buffer = buffer; taken = taken; size = size }
     by a b c d e f = rw (← a, ← b, ← c, ← d, ← e, ← f)
 
-pub all-finished : (held error : ℕ) (buffer : List ℕ) (x : CFinished) → CFinishes held error buffer x
-    → x ≡ finishedC (ended (deframerOf held error) buffer)
-all-finished held error buffer x is = by (is .0) (is .1)
+pub all-finished : (c held error : ℕ) (buffer : List ℕ) (x : CFinished) → CFinishes c held error buffer x
+    → x ≡ finishedC (ended c (deframerOf held error) buffer)
+all-finished c held error buffer x is = by (is .0) (is .1)
   where
     by : {code short-by : ℕ} → x .code ≡ code → x .short-by ≡ short-by → x ≡ record { code = code; short-by = short-by }
     by a b = rw (← a, ← b)
 
-pub all-read : (kind : Kind) (frame lent : List ℕ) (x : CRead) → CReads kind frame lent x → x ≡ readC frame (readFrame kind frame lent)
-all-read kind frame lent x is = by (is .code-is) (is .rows-are) (is .numbers-are)
+pub all-read : (c : ℕ) (kind : Kind) (frame lent : List ℕ) (x : CRead) → CReads c kind frame lent x
+    → x ≡ readC frame (readFrame c kind frame lent)
+all-read c kind frame lent x is = by (is .code-is) (is .rows-are) (is .numbers-are)
   where
     by : {code : ℕ} {rows numbers : List ℕ} → x .code ≡ code → x .rows ≡ rows → x .numbers ≡ numbers
         → x ≡ record { code = code; rows = rows; numbers = numbers }
     by a b c = rw (← a, ← b, ← c)
 
-pub all-written : (kind : Kind) (numbers source rows body output : List ℕ) (x : CWritten) → CWrites kind numbers source rows body output x
-    → x ≡ writtenC (writtenFrom kind numbers source rows body output)
-all-written kind numbers source rows body output x is = by (is .code-is) (is .output-is) (is .size-is)
+pub all-written : (c : ℕ) (kind : Kind) (numbers source rows body output : List ℕ) (x : CWritten)
+    → CWrites c kind numbers source rows body output x → x ≡ writtenC (writtenFrom c kind numbers source rows body output)
+all-written c kind numbers source rows body output x is = by (is .code-is) (is .output-is) (is .size-is)
   where
     by : {code size : ℕ} {out : List ℕ} → x .code ≡ code → x .out ≡ out → x .size ≡ size
         → x ≡ record { code = code; out = out; size = size }

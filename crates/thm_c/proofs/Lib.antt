@@ -8,6 +8,7 @@ pub mod CLastTwo
 pub mod NumbersBack
 pub mod CExactly
 pub mod CEight
+pub mod CCeiling
 pub mod Contracts
 -- What the numbers of an answer say is the answer, and a contract that gives each number gives all of them
 mod Told

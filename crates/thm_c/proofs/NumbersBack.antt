@@ -1,8 +1,8 @@
 -- For a user in C: what the numbers of a record say is the record.
 --
--- Promised: of every record that a program can hold, its 25 numbers and its kind give it back (`numbers-back`); and of every frame, kind
--- and row numbers, what a reader gave gives back the record that was read (`reading-back`), so it can be handed to the writer of its kind;
--- and its last number is the frame's version (`version-read`).
+-- Promised: of every record that a program can hold, its 25 numbers and its kind give it back (`numbers-back`); and of every ceiling,
+-- frame, kind and row numbers, what a reader gave gives back the record that was read (`reading-back`), so it can be handed to the writer
+-- of its kind; and its last number is the frame's version (`version-read`).
 -- Not promised: what the writer makes of the record, which `c-read-back` says.
 -- Ruled out: an int32 that comes back unsigned, and a field that is stored at one place and looked for at another.
 use Prim.Native.Nat.{ℕ, _%_, _^_, _<_}
@@ -15,7 +15,7 @@ use lib.ListN.{length, take, getD}
 use Rattle.laws.proofs.Booleans.{either, choose}
 use Rattle.wire_read.proofs.SignedLaws.{low-small}
 use Rattle.wire_write.proofs.ReadBack.{signed-bits}
-use Rattle.fixed_header.specs.Header.{headerError, totalOf, idOf, versionOf}
+use Rattle.fixed_header.specs.Header.{ceilingOk, headerError, totalOf, idOf, versionOf}
 use Rattle.decoder.specs.Rows.{rowNumbers, laidOut}
 use Rattle.decoder.specs.Fields.{Result, ok, refused, readMessage}
 use Rattle.schema.specs.Schema.{slotCount}
@@ -32,10 +32,8 @@ use Rattle.message.specs.declared.Answer.the-variants as answers
 use Rattle.message.specs.declared.Located.{Located}
 use Rattle.records.specs.Content.{mark, kindOf, recordId, recordVersion, rowCount, slotsOf}
 use Rattle.bekurapi.specs.Numbers.{answerId, answerVersion, answerRows, answerSlots, numbersOf, recordFrom}
+use Rattle.thm_round_trip.proofs.LastTwoWritten.{byte-is}
 use Rattle.thm_c.specs.Readings.{Fit}
-
-byte-is : (n : ℕ) → n < 2 ^ 8 → n % 256 ≡ n
-byte-is n h = omega arith
 
 mark-back : (b : Bool) → not (eqb (mark b) 0) ≡ b
 mark-back true = refl
@@ -107,7 +105,7 @@ version-byte f = omega arith
 record KeptIn (kind : Kind) (version : ℕ) (x : Reading) : Type 0 where
   is : Kept kind version (x .answer)
 
-module _ (kind : Kind) (f lent : List ℕ) where
+module _ (c : ℕ) (kind : Kind) (f lent : List ℕ) where
   abbrev InFrame : Reading → Type 0
   InFrame = KeptIn kind (versionOf f)
 
@@ -122,29 +120,30 @@ module _ (kind : Kind) (f lent : List ℕ) where
       (λ e. none 15 (laidOut [] lent))
   of-result (refused code) = none code (laidOut [] lent)
 
-  kept : InFrame (readFrame kind f lent)
+  kept : InFrame (readFrame c kind f lent)
   unfolding readFrame
   kept =
-      either InFrame (ltb (length lent) rowNumbers) (none 16 lent)
+      either InFrame (not (ceilingOk c)) (none 41 lent)
+      (either InFrame (ltb (length lent) rowNumbers) (none 16 lent)
       (either InFrame (ltb (length f) 16) (none 9 lent)
-      (either InFrame (eqb (headerError (take 16 f)) 0)
+      (either InFrame (eqb (headerError c (take 16 f)) 0)
       (either InFrame (eqb (length f) (totalOf f) && kindFits kind (getD f 2 0) (getD f 3 0))
       (of-result (readMessage f (schemaOf kind) 16 (headerOf kind f)))
       (none 9 lent))
-      (none (headerError (take 16 f)) lent)))
+      (none (headerError c (take 16 f)) lent))))
 
-kept-read : (kind : Kind) (f lent : List ℕ) (r : Record) → readFrame kind f lent .answer ≡ answers.Read r
+kept-read : (c : ℕ) (kind : Kind) (f lent : List ℕ) (r : Record) → readFrame c kind f lent .answer ≡ answers.Read r
     → Kept kind (versionOf f) (answers.Read r)
-kept-read kind f lent r e = subst (Kept kind (versionOf f)) e (kept kind f lent .is)
+kept-read c kind f lent r e = subst (Kept kind (versionOf f)) e (kept c kind f lent .is)
 
-pub version-read : (kind : Kind) (f lent : List ℕ) (size : ℕ) (r : Record) → readFrame kind f lent .answer ≡ answers.Read r
-    → getD (numbersOf (spansOf (readFrame kind f lent) size)) 24 0 ≡ versionOf f
-version-read kind f lent size r e =
-    ap (λ (a : Answer). getD (answerSlots a ++ answerVersion a ∷ []) 16 0) e ∙ last-is r ∙ kept-read kind f lent r e .2
+pub version-read : (c : ℕ) (kind : Kind) (f lent : List ℕ) (size : ℕ) (r : Record) → readFrame c kind f lent .answer ≡ answers.Read r
+    → getD (numbersOf (spansOf (readFrame c kind f lent) size)) 24 0 ≡ versionOf f
+version-read c kind f lent size r e =
+    ap (λ (a : Answer). getD (answerSlots a ++ answerVersion a ∷ []) 16 0) e ∙ last-is r ∙ kept-read c kind f lent r e .2
 
-pub reading-back : (kind : Kind) (f lent : List ℕ) (size : ℕ) (r : Record) → readFrame kind f lent .answer ≡ answers.Read r
-    → recordFrom kind (numbersOf (spansOf (readFrame kind f lent) size)) ≡ r
-reading-back kind f lent size r e =
-    let is = kept-read kind f lent r e in
-    let l = spansOf (readFrame kind f lent) size in
+pub reading-back : (c : ℕ) (kind : Kind) (f lent : List ℕ) (size : ℕ) (r : Record) → readFrame c kind f lent .answer ≡ answers.Read r
+    → recordFrom kind (numbersOf (spansOf (readFrame c kind f lent) size)) ≡ r
+reading-back c kind f lent size r e =
+    let is = kept-read c kind f lent r e in
+    let l = spansOf (readFrame c kind f lent) size in
     subst (λ (k : Kind). recordFrom k (numbersOf l) ≡ r) (is .1) (numbers-back l r e (is .0))

@@ -34,29 +34,30 @@ pub record CFinished : Type 0 where
 
 -- ---- the `ensures` of each function, of what a call of it gave
 
-abbrev pub CDeframes : (held error : ℕ) → (buffer piece : List ℕ) → CDeframed → Type 0
-CDeframes held error buffer piece d = DeframedAs held error buffer piece (d .code) (d .held) (d .error) (d .buffer) (d .taken) (d .size)
+abbrev pub CDeframes : (c : ℕ) → (held error : ℕ) → (buffer piece : List ℕ) → CDeframed → Type 0
+CDeframes c held error buffer piece d = DeframedAs c held error buffer piece (d .code) (d .held) (d .error) (d .buffer) (d .taken) (d .size)
 
-abbrev pub CFinishes : (held error : ℕ) → (buffer : List ℕ) → CFinished → Type 0
-CFinishes held error buffer f =
-    (f .code ≡ endError (ended (deframerOf held error) buffer)) × (f .short-by ≡ endShort (ended (deframerOf held error) buffer))
+abbrev pub CFinishes : (c : ℕ) → (held error : ℕ) → (buffer : List ℕ) → CFinished → Type 0
+CFinishes c held error buffer f =
+    (f .code ≡ endError (ended c (deframerOf held error) buffer)) × (f .short-by ≡ endShort (ended c (deframerOf held error) buffer))
 
 -- ---- the calls of the deframer and of the end of a stream
 
--- the two last are made with any state and any buffer, of which a call is refused with 1 or 2
+-- the two last are made under any ceiling, with any state and any buffer, of which a call is refused with 41, 1 or 2
 pub data CEvent : Type 0 where
   deframe : (piece : List ℕ) → CDeframed → CEvent
   finish : CFinished → CEvent
-  deframeWrong : (held error : ℕ) → (buffer piece : List ℕ) → CDeframed → CEvent
-  finishWrong : (held error : ℕ) → (buffer : List ℕ) → CFinished → CEvent
+  deframeWrong : (ceiling held error : ℕ) → (buffer piece : List ℕ) → CDeframed → CEvent
+  finishWrong : (ceiling held error : ℕ) → (buffer : List ℕ) → CFinished → CEvent
 
--- each call of the others found state and buffer as the one before it left them
-abbrev pub CTrace : (held error : ℕ) → (buffer : List ℕ) → List CEvent → Type 0
-CTrace held error buffer [] = Unit {0}
-CTrace held error buffer (deframe piece d ∷ events) = CDeframes held error buffer piece d × CTrace (d .held) (d .error) (d .buffer) events
-CTrace held error buffer (finish f ∷ events) = CFinishes held error buffer f × CTrace held error buffer events
-CTrace held error buffer (deframeWrong h e b piece d ∷ events) = CDeframes h e b piece d × CTrace held error buffer events
-CTrace held error buffer (finishWrong h e b f ∷ events) = CFinishes h e b f × CTrace held error buffer events
+-- each call of the others was made under the ceiling c, and found state and buffer as the one before it left them
+abbrev pub CTrace : (c : ℕ) → (held error : ℕ) → (buffer : List ℕ) → List CEvent → Type 0
+CTrace c held error buffer [] = Unit {0}
+CTrace c held error buffer (deframe piece d ∷ events) =
+    CDeframes c held error buffer piece d × CTrace c (d .held) (d .error) (d .buffer) events
+CTrace c held error buffer (finish f ∷ events) = CFinishes c held error buffer f × CTrace c held error buffer events
+CTrace c held error buffer (deframeWrong k h e b piece d ∷ events) = CDeframes k h e b piece d × CTrace c held error buffer events
+CTrace c held error buffer (finishWrong k h e b f ∷ events) = CFinishes k h e b f × CTrace c held error buffer events
 
 -- ---- what the numbers say
 
@@ -79,16 +80,16 @@ outOf d =
 abbrev pub cEventOf : CEvent → Event
 cEventOf (deframe piece d) = pushed piece (outOf d)
 cEventOf (finish f) = finished (endOf (f .code) (f .short-by))
-cEventOf (deframeWrong h e b piece d) = pushedWrong (deframerOf h e) b (outOf d)
-cEventOf (finishWrong h e b f) = finishedWrong (deframerOf h e) b (endOf (f .code) (f .short-by))
+cEventOf (deframeWrong k h e b piece d) = pushedWrong k (deframerOf h e) b (outOf d)
+cEventOf (finishWrong k h e b f) = finishedWrong k (deframerOf h e) b (endOf (f .code) (f .short-by))
 
 -- ---- the readings: a call of the reader of the kind that is named for the frame, with the row numbers lent for it
 
-abbrev pub CReadsNamed : Naming → ℕ → (frame : List ℕ) → CRead → Type 0
-CReadsNamed named n frame x = CReads (named n .kind) frame (named n .lent) x
+abbrev pub CReadsNamed : (c : ℕ) → Naming → ℕ → (frame : List ℕ) → CRead → Type 0
+CReadsNamed c named n frame x = CReads c (named n .kind) frame (named n .lent) x
 
-abbrev pub CReadOfNamed : Naming → ℕ → (frame : List ℕ) → CRead → Type 0
-CReadOfNamed named n frame x = CReadOf (named n .kind) frame (named n .lent) x
+abbrev pub CReadOfNamed : (c : ℕ) → Naming → ℕ → (frame : List ℕ) → CRead → Type 0
+CReadOfNamed c named n frame x = CReadOf c (named n .kind) frame (named n .lent) x
 
 -- P of each frame and of what was read of it, by the frame's number; `n` frames came before
 abbrev pub OfEach : (P : ℕ → (frame : List ℕ) → CRead → Type 0) → ℕ → (frames : List (List ℕ)) → List CRead → Type 0
@@ -96,12 +97,12 @@ OfEach P n [] xs = xs ≡ []
 OfEach P n (frame ∷ frames) [] = ⊥
 OfEach P n (frame ∷ frames) (x ∷ xs) = P n frame x × OfEach P (suc n) frames xs
 
--- ---- the statement: what holds of the calls and their readings, where the pieces come from `bytes`
-pub record CFaithful (named : Naming) (bytes : List ℕ) (events : List CEvent) (readings : List CRead) : Type 0 where
+-- ---- the statement: what holds of the calls and their readings under the ceiling c, where the pieces come from `bytes`
+pub record CFaithful (c : ℕ) (named : Naming) (bytes : List ℕ) (events : List CEvent) (readings : List CRead) : Type 0 where
   -- frames, what each call answered and took, that the frames tile the bytes taken, the verdict and its finality
-  pub stream : Faithful bytes (map cEventOf events)
+  pub stream : Faithful c bytes (map cEventOf events)
   -- "frames, parts, records, rows .. are those of the uncut reading of the bytes taken"
-  pub readings-are : OfEach (CReadOfNamed named) 0 (uncut (takenOf (map cEventOf events)) .frames) readings
+  pub readings-are : OfEach (CReadOfNamed c named) 0 (uncut c (takenOf (map cEventOf events)) .frames) readings
   -- "and of all bytes once all are taken or a header is refused"
   pub all : (takenOf (map cEventOf events) ≡ bytes) ⊎ ((code : ℕ) × RefusedBy code (map cEventOf events))
-      → OfEach (CReadOfNamed named) 0 (uncut bytes .frames) readings
+      → OfEach (CReadOfNamed c named) 0 (uncut c bytes .frames) readings

@@ -29,7 +29,7 @@ use Rattle.thm_refusals.specs.Reader.{readEntry}
 
 -- ---- `trpc_header_check`: `headerCheck` of `thm_refusals`
 
--- ---- `trpc_header_parse`: "judge 9, then 3 to 8", without 8; all are 0 after a refusal
+-- ---- `trpc_header_parse`: 41 "before all others"; "judge 9, then 3 to 8", without 8; all are 0 after a refusal
 abbrev pub parsedC : Parsed → CParsed
 parsedC p =
     record {
@@ -46,10 +46,10 @@ parsedSays (headers.Good h) = works
 parsedSays (headers.Refused n) = refuses n
 
 -- `parse_header`
-abbrev pub parseEntry : List ℕ → Entry Parsed
-parseEntry h =
+abbrev pub parseEntry : (c : ℕ) → List ℕ → Entry Parsed
+parseEntry c h =
     record {
-      grounds = headerGrounds h;
+      grounds = headerGrounds c h;
       says = parsedSays;
       refusal = headers.Refused;
       work = headers.Good (record {
@@ -61,10 +61,10 @@ parseEntry h =
       });
     }
 
-abbrev pub cParseEntry : List ℕ → Entry CParsed
-cParseEntry h = retold parsedC (λ d. d .code) (parseEntry h)
+abbrev pub cParseEntry : (c : ℕ) → List ℕ → Entry CParsed
+cParseEntry c h = retold parsedC (λ d. d .code) (parseEntry c h)
 
--- ---- `trpc_deframe`: "1, 2, a held refusal, then 3 to 8 rising", without 8
+-- ---- `trpc_deframe`: 41; "1, 2, a held refusal, then 3 to 8 rising", without 8
 abbrev pub deframedC : Out → CDeframed
 deframedC o =
     record {
@@ -76,29 +76,29 @@ deframedC o =
       size = progressSize (o .step .progress);
     }
 
-abbrev pub cDeframeEntry : (held error : ℕ) → (buffer piece : List ℕ) → Entry CDeframed
-cDeframeEntry held error buffer piece = retold deframedC (λ d. d .code) (deframeEntry (deframerOf held error) buffer piece)
+abbrev pub cDeframeEntry : (c : ℕ) → (held error : ℕ) → (buffer piece : List ℕ) → Entry CDeframed
+cDeframeEntry c held error buffer piece = retold deframedC (λ d. d .code) (deframeEntry c (deframerOf held error) buffer piece)
 
 -- ---- `trpc_finish`
 abbrev pub finishedC : End → CFinished
 finishedC e = record { code = endError e; short-by = endShort e }
 
-abbrev pub cFinishEntry : (held error : ℕ) → (buffer : List ℕ) → Entry CFinished
-cFinishEntry held error buffer = retold finishedC (λ f. f .code) (finishEntry (deframerOf held error) buffer)
+abbrev pub cFinishEntry : (c : ℕ) → (held error : ℕ) → (buffer : List ℕ) → Entry CFinished
+cFinishEntry c held error buffer = retold finishedC (λ f. f .code) (finishEntry c (deframerOf held error) buffer)
 
--- ---- `trpc_read_request` to `trpc_read_close`: "16; fewer than 16 bytes is 9; 3 to 8; 9; then fields from left to right, ..; 15 last",
--- without 8
+-- ---- `trpc_read_request` to `trpc_read_close`: 41; "16; fewer than 16 bytes is 9; 3 to 8; 9; then fields from left to right, ..; 15
+-- last", without 8
 abbrev pub readC : (frame : List ℕ) → Reading → CRead
 readC f x = record { code = answerError (x .answer); rows = x .rows; numbers = numbersOf (spansOf x (length f)) }
 
-abbrev pub cReadEntry : Kind → (frame lent : List ℕ) → Entry CRead
-cReadEntry kind f lent = retold (readC f) (λ x. x .code) (readEntry kind f lent)
+abbrev pub cReadEntry : (c : ℕ) → Kind → (frame lent : List ℕ) → Entry CRead
+cReadEntry c kind f lent = retold (readC f) (λ x. x .code) (readEntry c kind f lent)
 
--- ---- `trpc_write_request` to `trpc_write_close`: "Writer 18's first three grounds, 17, 18's others, 15, 19, 20, 27." Document 02 took
--- 20 out.
+-- ---- `trpc_write_request` to `trpc_write_close`: 41; "Writer 18's first three grounds, 17, 18's others, 15, 19, 20, 27." Document 02
+-- took 20 out.
 abbrev pub writtenC : Writing → CWritten
 writtenC w = record { code = errorOf (w .answer); out = w .output; size = countOf (w .answer) }
 
-abbrev pub cWriteEntry : Kind → (numbers source rows body output : List ℕ) → Entry CWritten
-cWriteEntry kind numbers source rows body output =
-    retold writtenC (λ w. w .code) (writeEntry (recordFrom kind numbers) source rows body output)
+abbrev pub cWriteEntry : (c : ℕ) → Kind → (numbers source rows body output : List ℕ) → Entry CWritten
+cWriteEntry c kind numbers source rows body output =
+    retold writtenC (λ w. w .code) (writeEntry c (recordFrom kind numbers) source rows body output)

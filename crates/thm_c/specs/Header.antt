@@ -24,11 +24,11 @@ pub record CParsed : Type 0 where
 -- ---- the `ensures` of each function, of what a call of it gave
 
 -- `trpc_header_check` only returns a number
-abbrev pub CChecks : (bytes : List ℕ) (code : ℕ) → Type 0
-CChecks bytes code = code ≡ headerError bytes
+abbrev pub CChecks : (c : ℕ) → (bytes : List ℕ) (code : ℕ) → Type 0
+CChecks c bytes code = code ≡ headerError c bytes
 
-abbrev pub CParses : (bytes : List ℕ) → CParsed → Type 0
-CParses bytes x = ParsedAs bytes (x .code) (x .frame-type) (x .total) (x .header-size) (x .id) (x .version)
+abbrev pub CParses : (c : ℕ) → (bytes : List ℕ) → CParsed → Type 0
+CParses c bytes x = ParsedAs c bytes (x .code) (x .frame-type) (x .total) (x .header-size) (x .id) (x .version)
 
 -- ---- what the numbers say
 

@@ -25,8 +25,8 @@ pub record CRead : Type 0 where
   pub numbers : List ℕ
 
 -- the `ensures` of the reader of a kind, of what a call of it gave
-abbrev pub CReads : Kind → (frame lent : List ℕ) → CRead → Type 0
-CReads kind frame lent x = ReadAs kind frame lent (x .code) (x .rows) (x .numbers)
+abbrev pub CReads : (c : ℕ) → Kind → (frame lent : List ℕ) → CRead → Type 0
+CReads c kind frame lent x = ReadAs c kind frame lent (x .code) (x .rows) (x .numbers)
 
 -- ---- what the numbers say
 
@@ -59,11 +59,11 @@ wholeOf x =
     record { answer = x .answer; header = allOf (x .header); body = allOf (x .body); attachment = allOf (x .attachment); rows = x .rows }
 
 -- What a call of the reader of a kind gave of a frame.
-pub record CReadOf (kind : Kind) (frame lent : List ℕ) (x : CRead) : Type 0 where
+pub record CReadOf (c : ℕ) (kind : Kind) (frame lent : List ℕ) (x : CRead) : Type 0 where
   -- each number, so the places of the parts, too
-  pub numbers : CReads kind frame lent x
+  pub numbers : CReads c kind frame lent x
   -- the record or the error code, header, body and attachment as bytes of the frame, and the row numbers
-  pub says : saidBy kind frame x ≡ wholeOf (readFrame kind frame lent)
+  pub says : saidBy kind frame x ≡ wholeOf (readFrame c kind frame lent)
   -- "A refused record .. is all zero", and the parts are "empty if refused"
   pub zero : (x .code ≡ 0 → ⊥) → x .numbers ≡ replicate 25 0
   -- "Every record carries the version": the last number is byte 15, so its unused bytes are 0

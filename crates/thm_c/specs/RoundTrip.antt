@@ -18,8 +18,8 @@ pub record CWritten : Type 0 where
   pub size : ℕ
 
 -- the `ensures` of the writer of a kind, of what a call of it gave
-abbrev pub CWrites : Kind → (numbers source rows body out : List ℕ) → CWritten → Type 0
-CWrites kind numbers source rows body out w = WrittenAs kind numbers source rows body out (w .code) (w .size) (w .out)
+abbrev pub CWrites : (c : ℕ) → Kind → (numbers source rows body out : List ℕ) → CWritten → Type 0
+CWrites c kind numbers source rows body out w = WrittenAs c kind numbers source rows body out (w .code) (w .size) (w .out)
 
 -- numbers that a uint32_t holds
 abbrev pub Words : List ℕ → Type 0

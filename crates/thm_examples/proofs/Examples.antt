@@ -1,9 +1,10 @@
--- Promised: each row of the table holds for the definitions that the contracts cite. They are computed; nothing is assumed.
+-- Promised: each row of the table holds for the definitions that the contracts cite, under the ceiling 65,536. They are computed;
+-- nothing is assumed.
 -- Not promised: that the programs run as compiled; they are run and compared.
 -- Ruled out: a definition that gives another answer to one of document 01's examples, or to one of document 02's two bytes.
 use mathlib.Core.Path.{refl}
 use Rattle.fixed_header.specs.Header.{be16Of, be32Of, totalOf, headerSizeOf, idOf, versionOf, headerError, typeOf, parsed}
-use Rattle.fixed_header.specs.Header.{magicOk, dataTypeOk, streamTypeOk, totalOk, headerSizeOk, faultOf}
+use Rattle.fixed_header.specs.Header.{ceilingOk, magicOk, dataTypeOk, streamTypeOk, totalOk, headerSizeOk, faultOf}
 use Rattle.deframer.specs.Stream.{uncutIn, uncut}
 use Rattle.wire_read.specs.Varint.{joined, groups, varint, twosComplement}
 use Rattle.wire_read.specs.Tags.{wireType, split, tag, lengthWithin, lengthPrefix}
@@ -26,7 +27,7 @@ unfolding readFrame answered withAttachment headerOf bodyOf kindFits recordOf at
     inside withField andThen addEntry enter sameBytes setNumber setBytes setSlot look width nextField fieldAfter content
     littleEndian tag split varint groups joined wireType lengthPrefix lengthWithin value inGroup groupIn further-group skipVarint
     skipFixed skipBytes twosComplement be16Of be32Of totalOf headerSizeOf idOf versionOf magicOk dataTypeOk streamTypeOk totalOk
-    headerSizeOk faultOf headerError typeOf parsed uncutIn uncut added taken invalid earliest closedUp due
+    headerSizeOk ceilingOk faultOf headerError typeOf parsed uncutIn uncut added taken invalid earliest closedUp due
 both-hold = (
   refl and refl and refl and refl and refl and refl and refl and refl and refl and refl and refl and refl
       and refl and refl and refl and refl and refl and refl and refl and refl and refl and refl and refl and refl and no-more,

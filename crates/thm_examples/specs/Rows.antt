@@ -3,7 +3,7 @@ use Prim.Native.Nat.{ℕ, zero, suc}
 use mathlib.Core.Path.{_≡_}
 use mathlib.Core.List.{List, [], _∷_}
 use lib.ListN.{length, replicate}
-use Rattle.fixed_header.specs.Header.{headerError, parsed}
+use Rattle.fixed_header.specs.Header.{maxFrame, headerError, parsed}
 use Rattle.deframer.specs.Stream.{uncut}
 use Rattle.fixed_header.specs.declared.FixedHeader.{FixedHeader}
 use Rattle.fixed_header.specs.declared.Parsed.the-variants.{Good}
@@ -36,12 +36,12 @@ abbrev pub takenAll : ℕ → Queue → List Job
 takenAll zero q = []
 takenAll (suc n) q = taken q .job ∷ takenAll n (taken q .queue)
 
--- the one statement
+-- the one statement: document 01's examples are those of a connection whose ceiling is 65,536, its largest frame
 abbrev pub Holds : Row → Type 0
-Holds (stream bytes frames end) = uncut bytes ≡ record { frames = frames; end = end }
-Holds (judged header number) = headerError header ≡ number
-Holds (says header said) = parsed header ≡ Good said
-Holds (reads kind frame reading) = readFrame kind frame (replicate 256 0) ≡ reading
+Holds (stream bytes frames end) = uncut maxFrame bytes ≡ record { frames = frames; end = end }
+Holds (judged header number) = headerError maxFrame header ≡ number
+Holds (says header said) = parsed maxFrame header ≡ Good said
+Holds (reads kind frame reading) = readFrame maxFrame kind frame (replicate 256 0) ≡ reading
 Holds (takes jobs order) = takenAll (length order) (addedAll emptyQueue jobs) ≡ order
 
 -- of every row of a table

@@ -77,10 +77,11 @@ use Rattle.thm_numbers.specs.AnyCall as calls
 module _ {M : Type 1} (𝓤 : URA M) (H : Heap 𝓤) (A : Atoms 𝓤) (mem : Memory → SProp 𝓤) (run : Routine → Fun 𝓤) (κ ι : Lft)
     (s lent : RefT (List ℕ)) where
   -- ---- `fixed_header`
-  pub parse-header-ensures : (p : Parsed)
-      → parse-header.clauses 𝓤 H A mem run (κ, tt) (s, tt) .ensures tt p (atExit parse-header.ended (κ, tt) (s, tt) (tt, tt))
-      ≡ fact 𝓤 (AsEnsured (calls.parse-header (now s) p))
-  parse-header-ensures p = refl
+  pub parse-header-ensures : (ceiling : ℕ) (p : Parsed)
+      → parse-header.clauses 𝓤 H A mem run (κ, tt) (s, (ceiling, tt)) .ensures tt p
+      (atExit parse-header.ended (κ, tt) (s, (ceiling, tt)) (tt, (tt, tt)))
+      ≡ fact 𝓤 (AsEnsured (calls.parse-header ceiling (now s) p))
+  parse-header-ensures ceiling p = refl
 
   -- ---- `wire_read`
   module _ (at end : ℕ) where
@@ -170,20 +171,23 @@ leftOf {A} {x} {y} law = x
 
 module _ {M : Type 1} (𝓤 : URA M) (H : Heap 𝓤) (A : Atoms 𝓤) (mem : Memory → SProp 𝓤) (run : Routine → Fun 𝓤) (κ ι : Lft) where
   -- `fixed_header`
-  pub check-header-is : (bytes : RefT (List ℕ)) (code : ℕ)
-      → leftOf (header.header-ensures 𝓤 H A mem run κ bytes code) ≡ fact 𝓤 (AsEnsured (calls.check-header (now bytes) code))
-  check-header-is bytes code = refl
+  pub check-header-is : (bytes : RefT (List ℕ)) (ceiling code : ℕ)
+      → leftOf (header.header-ensures 𝓤 H A mem run κ bytes ceiling code)
+      ≡ fact 𝓤 (AsEnsured (calls.check-header ceiling (now bytes) code))
+  check-header-is bytes ceiling code = refl
 
   -- `deframer`: two facts, of the answer and of the buffer
-  pub deframe-is : (state : Deframer) (buffer piece : RefT (List ℕ)) (o : Out)
-      → (P : Type 0) × ((Q : Type 0) × ((AsEnsured (calls.deframe state (now buffer) (now piece) o) ≡ (P × Q))
-      × (leftOf (stream.deframe-ensures 𝓤 H A mem run κ ι state buffer piece (o .step) (o .buffer)) ≡ sep 𝓤 (fact 𝓤 P) (fact 𝓤 Q))))
-  deframe-is state buffer piece o =
-      (Answers state (now buffer) (now piece) o, (Leaves state (now buffer) (now piece) o, (refl, refl)))
+  pub deframe-is : (state : Deframer) (buffer : RefT (List ℕ)) (ceiling : ℕ) (piece : RefT (List ℕ)) (o : Out)
+      → (P : Type 0) × ((Q : Type 0) × ((AsEnsured (calls.deframe ceiling state (now buffer) (now piece) o) ≡ (P × Q))
+      × (leftOf (stream.deframe-ensures 𝓤 H A mem run κ ι state buffer ceiling piece (o .step) (o .buffer))
+      ≡ sep 𝓤 (fact 𝓤 P) (fact 𝓤 Q))))
+  deframe-is state buffer ceiling piece o =
+      (Answers ceiling state (now buffer) (now piece) o, (Leaves ceiling state (now buffer) (now piece) o, (refl, refl)))
 
-  pub finish-is : (state : Deframer) (buffer : RefT (List ℕ)) (e : End)
-      → leftOf (stream.finish-ensures 𝓤 H A mem run κ ι state buffer e) ≡ fact 𝓤 (AsEnsured (calls.finish state (now buffer) e))
-  finish-is state buffer e = refl
+  pub finish-is : (state : Deframer) (buffer : RefT (List ℕ)) (ceiling : ℕ) (e : End)
+      → leftOf (stream.finish-ensures 𝓤 H A mem run κ ι state buffer ceiling e)
+      ≡ fact 𝓤 (AsEnsured (calls.finish ceiling state (now buffer) e))
+  finish-is state buffer ceiling e = refl
 
   -- `wire_write`
   module _ (at : ℕ) (out : RefT (List ℕ)) (x : FieldWriting) where
@@ -208,18 +212,18 @@ module _ {M : Type 1} (𝓤 : URA M) (H : Heap 𝓤) (A : Atoms 𝓤) (mem : Mem
     write-bytes-is n content = refl
 
   -- `message` and `reader`, which ensures the places of the parts, too
-  module _ (kind : Kind) (frame rows : RefT (List ℕ)) (after : List ℕ) where
+  module _ (kind : Kind) (frame : RefT (List ℕ)) (ceiling : ℕ) (rows : RefT (List ℕ)) (after : List ℕ) where
     pub read-spans-is : (x : Located)
-        → leftOf (round-trip.read-spans-ensures 𝓤 H A mem run κ ι kind frame rows x after)
-        ≡ fact 𝓤 (AsEnsured (calls.read-spans kind (now frame) (now rows) x after))
+        → leftOf (round-trip.read-spans-ensures 𝓤 H A mem run κ ι kind frame ceiling rows x after)
+        ≡ fact 𝓤 (AsEnsured (calls.read-spans ceiling kind (now frame) (now rows) x after))
     read-spans-is x = refl
 
     pub read-is : (r : reader.Reading)
-        → leftOf (stream.read-ensures 𝓤 H A mem run κ ι kind frame rows r after)
-        ≡ fact 𝓤 (AsEnsured (calls.read kind (now frame) (now rows)
+        → leftOf (stream.read-ensures 𝓤 H A mem run κ ι kind frame ceiling rows r after)
+        ≡ fact 𝓤 (AsEnsured (calls.read ceiling kind (now frame) (now rows)
         (record { answer = r .answer; header = now (r .header); body = now (r .body); attachment = now (r .attachment); rows = after }))
-        × PartsStand (frame .ptr) (spansOf (readFrame kind (now frame) (now rows)) (length (now frame))) (r .header .ptr) (r .body .ptr)
-        (r .attachment .ptr))
+        × PartsStand (frame .ptr) (spansOf (readFrame ceiling kind (now frame) (now rows)) (length (now frame)))
+        (r .header .ptr) (r .body .ptr) (r .attachment .ptr))
     read-is r = refl
 
   -- `queue_in_place`
@@ -241,95 +245,97 @@ module _ {M : Type 1} (𝓤 : URA M) (H : Heap 𝓤) (A : Atoms 𝓤) (mem : Mem
 
 -- `writer` and `bekurapi`
 module _ {M : Type 1} (𝓤 : URA M) (H : Heap 𝓤) (A : Atoms 𝓤) (mem : Memory → SProp 𝓤) (run : Routine → Fun 𝓤) (a b c d e f : Lft) where
-  pub write-is : (r : Record) (source rows body out : RefT (List ℕ)) (w : Writing)
-      → leftOf (round-trip.write-ensures 𝓤 H A mem run a b c d r source rows body out (w .answer) (w .output))
-      ≡ fact 𝓤 (AsEnsured (calls.write r (now source) (now rows) (now body) (now out) w))
-  write-is r source rows body out w = refl
+  pub write-is : (r : Record) (source rows body out : RefT (List ℕ)) (ceiling : ℕ) (w : Writing)
+      → leftOf (round-trip.write-ensures 𝓤 H A mem run a b c d r source rows body out ceiling (w .answer) (w .output))
+      ≡ fact 𝓤 (AsEnsured (calls.write ceiling r (now source) (now rows) (now body) (now out) w))
+  write-is r source rows body out ceiling w = refl
 
-  pub write-slots-is : (kind : Kind) (id version : ℕ) (slots : List ℕ) (count : ℕ) (source rows body out : RefT (List ℕ)) (w : Writing)
-      → leftOf (round-trip.write-slots-ensures 𝓤 H A mem run a b c d kind id version slots count source rows body out
+  pub write-slots-is : (kind : Kind) (id version : ℕ) (slots : List ℕ) (count : ℕ) (source rows body out : RefT (List ℕ)) (ceiling : ℕ)
+      (w : Writing)
+      → leftOf (round-trip.write-slots-ensures 𝓤 H A mem run a b c d kind id version slots count source rows body out ceiling
       (w .answer) (w .output))
-      ≡ fact 𝓤 (AsEnsured (calls.write-slots kind id version slots count (now source) (now rows) (now body) (now out) w))
-  write-slots-is kind id version slots count source rows body out w = refl
+      ≡ fact 𝓤 (AsEnsured (calls.write-slots ceiling kind id version slots count (now source) (now rows) (now body) (now out) w))
+  write-slots-is kind id version slots count source rows body out ceiling w = refl
 
-  pub trpc-header-check-is : (bytes : RefT (List ℕ)) (code : ℕ)
-      → leftOf (c-calls.trpc-header-check-ensures 𝓤 H A mem run a b c d e f bytes code)
-      ≡ fact 𝓤 (AsEnsured (calls.trpc-header-check (now bytes) code))
-  trpc-header-check-is bytes code = refl
+  pub trpc-header-check-is : (bytes : RefT (List ℕ)) (ceiling code : ℕ)
+      → leftOf (c-calls.trpc-header-check-ensures 𝓤 H A mem run a b c d e f bytes ceiling code)
+      ≡ fact 𝓤 (AsEnsured (calls.trpc-header-check ceiling (now bytes) code))
+  trpc-header-check-is bytes ceiling code = refl
 
-  pub trpc-header-parse-is : (bytes : RefT (List ℕ)) (frame-type total header-size id version : RefT ℕ) (x : CParsed)
-      → leftOf (c-calls.trpc-header-parse-ensures 𝓤 H A mem run a b c d e f bytes frame-type total header-size id version x)
-      ≡ fact 𝓤 (AsEnsured (calls.trpc-header-parse (now bytes) x))
-  trpc-header-parse-is bytes frame-type total header-size id version x = refl
+  pub trpc-header-parse-is : (bytes : RefT (List ℕ)) (ceiling : ℕ) (frame-type total header-size id version : RefT ℕ) (x : CParsed)
+      → leftOf (c-calls.trpc-header-parse-ensures 𝓤 H A mem run a b c d e f bytes ceiling frame-type total header-size id version x)
+      ≡ fact 𝓤 (AsEnsured (calls.trpc-header-parse ceiling (now bytes) x))
+  trpc-header-parse-is bytes ceiling frame-type total header-size id version x = refl
 
-  pub trpc-deframe-is : (held error : RefT ℕ) (buffer piece : RefT (List ℕ)) (taken size : RefT ℕ) (x : CDeframed)
-      → leftOf (c-calls.trpc-deframe-ensures 𝓤 H A mem run a b c d e f held error buffer piece taken size x)
-      ≡ fact 𝓤 (AsEnsured (calls.trpc-deframe (now held) (now error) (now buffer) (now piece) x))
-  trpc-deframe-is held error buffer piece taken size x = refl
+  pub trpc-deframe-is : (held error : RefT ℕ) (buffer : RefT (List ℕ)) (ceiling : ℕ) (piece : RefT (List ℕ)) (taken size : RefT ℕ)
+      (x : CDeframed)
+      → leftOf (c-calls.trpc-deframe-ensures 𝓤 H A mem run a b c d e f held error buffer ceiling piece taken size x)
+      ≡ fact 𝓤 (AsEnsured (calls.trpc-deframe ceiling (now held) (now error) (now buffer) (now piece) x))
+  trpc-deframe-is held error buffer ceiling piece taken size x = refl
 
-  pub trpc-finish-is : (held error : ℕ) (buffer : RefT (List ℕ)) (short : RefT ℕ) (x : CFinished)
-      → leftOf (c-calls.trpc-finish-ensures 𝓤 H A mem run a b c d e f held error buffer short x)
-      ≡ fact 𝓤 (AsEnsured (calls.trpc-finish held error (now buffer) x))
-  trpc-finish-is held error buffer short x = refl
+  pub trpc-finish-is : (held error : ℕ) (buffer : RefT (List ℕ)) (ceiling : ℕ) (short : RefT ℕ) (x : CFinished)
+      → leftOf (c-calls.trpc-finish-ensures 𝓤 H A mem run a b c d e f held error buffer ceiling short x)
+      ≡ fact 𝓤 (AsEnsured (calls.trpc-finish ceiling held error (now buffer) x))
+  trpc-finish-is held error buffer ceiling short x = refl
 
-  module _ (frame rows numbers : RefT (List ℕ)) (x : CRead) where
+  module _ (frame : RefT (List ℕ)) (ceiling : ℕ) (rows numbers : RefT (List ℕ)) (x : CRead) where
     pub trpc-read-request-is :
-        leftOf (c-calls.trpc-read-request-ensures 𝓤 H A mem run a b c d e f frame rows numbers x)
-        ≡ fact 𝓤 (AsEnsured (calls.trpc-read kinds.Request (now frame) (now rows) x))
+        leftOf (c-calls.trpc-read-request-ensures 𝓤 H A mem run a b c d e f frame ceiling rows numbers x)
+        ≡ fact 𝓤 (AsEnsured (calls.trpc-read ceiling kinds.Request (now frame) (now rows) x))
     trpc-read-request-is = refl
 
     pub trpc-read-response-is :
-        leftOf (c-calls.trpc-read-response-ensures 𝓤 H A mem run a b c d e f frame rows numbers x)
-        ≡ fact 𝓤 (AsEnsured (calls.trpc-read kinds.Response (now frame) (now rows) x))
+        leftOf (c-calls.trpc-read-response-ensures 𝓤 H A mem run a b c d e f frame ceiling rows numbers x)
+        ≡ fact 𝓤 (AsEnsured (calls.trpc-read ceiling kinds.Response (now frame) (now rows) x))
     trpc-read-response-is = refl
 
     pub trpc-read-init-is :
-        leftOf (c-calls.trpc-read-init-ensures 𝓤 H A mem run a b c d e f frame rows numbers x)
-        ≡ fact 𝓤 (AsEnsured (calls.trpc-read kinds.Init (now frame) (now rows) x))
+        leftOf (c-calls.trpc-read-init-ensures 𝓤 H A mem run a b c d e f frame ceiling rows numbers x)
+        ≡ fact 𝓤 (AsEnsured (calls.trpc-read ceiling kinds.Init (now frame) (now rows) x))
     trpc-read-init-is = refl
 
     pub trpc-read-data-is :
-        leftOf (c-calls.trpc-read-data-ensures 𝓤 H A mem run a b c d e f frame rows numbers x)
-        ≡ fact 𝓤 (AsEnsured (calls.trpc-read kinds.Data (now frame) (now rows) x))
+        leftOf (c-calls.trpc-read-data-ensures 𝓤 H A mem run a b c d e f frame ceiling rows numbers x)
+        ≡ fact 𝓤 (AsEnsured (calls.trpc-read ceiling kinds.Data (now frame) (now rows) x))
     trpc-read-data-is = refl
 
     pub trpc-read-feedback-is :
-        leftOf (c-calls.trpc-read-feedback-ensures 𝓤 H A mem run a b c d e f frame rows numbers x)
-        ≡ fact 𝓤 (AsEnsured (calls.trpc-read kinds.Feedback (now frame) (now rows) x))
+        leftOf (c-calls.trpc-read-feedback-ensures 𝓤 H A mem run a b c d e f frame ceiling rows numbers x)
+        ≡ fact 𝓤 (AsEnsured (calls.trpc-read ceiling kinds.Feedback (now frame) (now rows) x))
     trpc-read-feedback-is = refl
 
     pub trpc-read-close-is :
-        leftOf (c-calls.trpc-read-close-ensures 𝓤 H A mem run a b c d e f frame rows numbers x)
-        ≡ fact 𝓤 (AsEnsured (calls.trpc-read kinds.Close (now frame) (now rows) x))
+        leftOf (c-calls.trpc-read-close-ensures 𝓤 H A mem run a b c d e f frame ceiling rows numbers x)
+        ≡ fact 𝓤 (AsEnsured (calls.trpc-read ceiling kinds.Close (now frame) (now rows) x))
     trpc-read-close-is = refl
 
-  module _ (numbers source rows body out : RefT (List ℕ)) (size : RefT ℕ) (x : CWritten) where
+  module _ (numbers source rows body out : RefT (List ℕ)) (ceiling : ℕ) (size : RefT ℕ) (x : CWritten) where
     pub trpc-write-request-is :
-        leftOf (c-calls.trpc-write-request-ensures 𝓤 H A mem run a b c d e f numbers source rows body out size x)
-        ≡ fact 𝓤 (AsEnsured (calls.trpc-write kinds.Request (now numbers) (now source) (now rows) (now body) (now out) x))
+        leftOf (c-calls.trpc-write-request-ensures 𝓤 H A mem run a b c d e f numbers source rows body out ceiling size x)
+        ≡ fact 𝓤 (AsEnsured (calls.trpc-write ceiling kinds.Request (now numbers) (now source) (now rows) (now body) (now out) x))
     trpc-write-request-is = refl
 
     pub trpc-write-response-is :
-        leftOf (c-calls.trpc-write-response-ensures 𝓤 H A mem run a b c d e f numbers source rows body out size x)
-        ≡ fact 𝓤 (AsEnsured (calls.trpc-write kinds.Response (now numbers) (now source) (now rows) (now body) (now out) x))
+        leftOf (c-calls.trpc-write-response-ensures 𝓤 H A mem run a b c d e f numbers source rows body out ceiling size x)
+        ≡ fact 𝓤 (AsEnsured (calls.trpc-write ceiling kinds.Response (now numbers) (now source) (now rows) (now body) (now out) x))
     trpc-write-response-is = refl
 
     pub trpc-write-init-is :
-        leftOf (c-calls.trpc-write-init-ensures 𝓤 H A mem run a b c d e f numbers source rows body out size x)
-        ≡ fact 𝓤 (AsEnsured (calls.trpc-write kinds.Init (now numbers) (now source) (now rows) (now body) (now out) x))
+        leftOf (c-calls.trpc-write-init-ensures 𝓤 H A mem run a b c d e f numbers source rows body out ceiling size x)
+        ≡ fact 𝓤 (AsEnsured (calls.trpc-write ceiling kinds.Init (now numbers) (now source) (now rows) (now body) (now out) x))
     trpc-write-init-is = refl
 
     pub trpc-write-data-is :
-        leftOf (c-calls.trpc-write-data-ensures 𝓤 H A mem run a b c d e f numbers source rows body out size x)
-        ≡ fact 𝓤 (AsEnsured (calls.trpc-write kinds.Data (now numbers) (now source) (now rows) (now body) (now out) x))
+        leftOf (c-calls.trpc-write-data-ensures 𝓤 H A mem run a b c d e f numbers source rows body out ceiling size x)
+        ≡ fact 𝓤 (AsEnsured (calls.trpc-write ceiling kinds.Data (now numbers) (now source) (now rows) (now body) (now out) x))
     trpc-write-data-is = refl
 
     pub trpc-write-feedback-is :
-        leftOf (c-calls.trpc-write-feedback-ensures 𝓤 H A mem run a b c d e f numbers source rows body out size x)
-        ≡ fact 𝓤 (AsEnsured (calls.trpc-write kinds.Feedback (now numbers) (now source) (now rows) (now body) (now out) x))
+        leftOf (c-calls.trpc-write-feedback-ensures 𝓤 H A mem run a b c d e f numbers source rows body out ceiling size x)
+        ≡ fact 𝓤 (AsEnsured (calls.trpc-write ceiling kinds.Feedback (now numbers) (now source) (now rows) (now body) (now out) x))
     trpc-write-feedback-is = refl
 
     pub trpc-write-close-is :
-        leftOf (c-calls.trpc-write-close-ensures 𝓤 H A mem run a b c d e f numbers source rows body out size x)
-        ≡ fact 𝓤 (AsEnsured (calls.trpc-write kinds.Close (now numbers) (now source) (now rows) (now body) (now out) x))
+        leftOf (c-calls.trpc-write-close-ensures 𝓤 H A mem run a b c d e f numbers source rows body out ceiling size x)
+        ≡ fact 𝓤 (AsEnsured (calls.trpc-write ceiling kinds.Close (now numbers) (now source) (now rows) (now body) (now out) x))
     trpc-write-close-is = refl

@@ -1,6 +1,6 @@
 -- For a user: which numbers an answer can hold.
 --
--- Promised, of any call of any entry in Rattle or C, with any arguments, that gave what its contract ensures:
+-- Promised, of any call of any entry in Rattle or C, with any arguments and under any ceiling, that gave what its contract ensures:
 --   `given-in-use`    the number in its answer is 0 or a number in use (`refusals`, specs/Numbers).
 --   `never-retired`   it is none of the retired numbers.
 --   `never-eight`     it is not 8. Document 02: "8 is no longer given and isn't used for anything else".
@@ -43,7 +43,7 @@ use Rattle.writer.specs.Writing.{Writing, written}
 use Rattle.thm_round_trip.specs.Calls.{Writes}
 use Rattle.writer.specs.declared.Encoded.{Encoded}
 use Rattle.laws.proofs.Booleans.{either}
-use Rattle.fixed_header.specs.Header.{maxFrame}
+use Rattle.fixed_header.specs.Header.{ceilingOk}
 use Rattle.deframer.specs.Deframe.{knownOf, stream, nextFrame, nextState, Out, deframed}
 use Rattle.deframer.specs.declared.Deframer.{Deframer}
 use Rattle.deframer.specs.declared.Step as deframer-step
@@ -89,23 +89,23 @@ by-grounds e all a is = answer-usable e a is (first-in-use (e .grounds) all)
 as-number : (n : ℕ) → Usable (numberOf (byNumber n)) → Usable n
 as-number n = subst Usable (number-back n)
 
-write-usable : (r : Record) (source numbers body output : List ℕ) (w : Writing) → Writes r source numbers body output w
+write-usable : (c : ℕ) (r : Record) (source numbers body output : List ℕ) (w : Writing) → Writes c r source numbers body output w
     → Usable (numberOf (encodedSays (w .answer)))
-write-usable r source numbers body output w is =
+write-usable c r source numbers body output w is =
     subst (λ (a : Encoded). Usable (numberOf (encodedSays a))) (sym (is .0))
-    (by-grounds (writeEntry r source numbers body output) refl (written r source numbers body output)
-    (written-exactly r source numbers body output))
+    (by-grounds (writeEntry c r source numbers body output) refl (written c r source numbers body output)
+    (written-exactly c r source numbers body output))
 
-pub given-in-use : (c : AnyCall) → AsEnsured c → Usable (numberIn c)
+pub given-in-use : (call : AnyCall) → AsEnsured call → Usable (numberIn call)
 unfolding stepAt
-given-in-use (check-header bytes code) is =
-    as-number code (by-grounds (headerCheck bytes) refl code (header-check-exactly bytes code is))
-given-in-use (parse-header bytes p) is =
-    by-grounds (parseEntry bytes) refl p (subst (Exactly (parseEntry bytes)) (sym is) (parse-exactly bytes))
-given-in-use (deframe state buffer piece o) is =
-    answer-usable (deframeEntry state buffer piece) o (deframe-gives state buffer piece o is) (deframe-in-use state buffer piece)
-given-in-use (finish state buffer e) is =
-    answer-usable (finishEntry state buffer) e (finish-gives state buffer e is) (finish-in-use state buffer)
+given-in-use (check-header c bytes code) is =
+    as-number code (by-grounds (headerCheck c bytes) refl code (header-check-exactly c bytes code is))
+given-in-use (parse-header c bytes p) is =
+    by-grounds (parseEntry c bytes) refl p (subst (Exactly (parseEntry c bytes)) (sym is) (parse-exactly c bytes))
+given-in-use (deframe c state buffer piece o) is =
+    answer-usable (deframeEntry c state buffer piece) o (deframe-gives c state buffer piece o is) (deframe-in-use c state buffer piece)
+given-in-use (finish c state buffer e) is =
+    answer-usable (finishEntry c state buffer) e (finish-gives c state buffer e is) (finish-in-use c state buffer)
 given-in-use (read-varint s at end v) is =
     subst (λ (x : Varint). Usable (varintNumber x)) (sym is) (varint-usable at (varint (part s at end)))
 given-in-use (read-tag s at end t) is =
@@ -136,48 +136,50 @@ given-in-use (write-bytes n content out at x) is =
     by-grounds (tagEntry n 2 out at (putBytes n content)) refl x (tagged-exactly out at (putBytes n content) n 2 x is)
 given-in-use (decode frame at end schema lent d) is =
     subst (λ (x : Decoded). Usable (x .error)) (sym is) (decode-usable frame at end schema lent)
-given-in-use (read-spans kind frame lent x rows) is =
+given-in-use (read-spans c kind frame lent x rows) is =
     subst (λ (x : Located). Usable (numberOf (answerSays (x .answer)))) (sym (is .0))
-    (answer-usable (readEntry kind frame lent) (readFrame kind frame lent) (read-exactly kind frame lent) (read-in-use kind frame lent))
-given-in-use (read kind frame lent x) is =
-    answer-usable (readEntry kind frame lent) x (read-gives kind frame lent x is) (read-in-use kind frame lent)
+    (answer-usable (readEntry c kind frame lent) (readFrame c kind frame lent) (read-exactly c kind frame lent)
+    (read-in-use c kind frame lent))
+given-in-use (read c kind frame lent x) is =
+    answer-usable (readEntry c kind frame lent) x (read-gives c kind frame lent x is) (read-in-use c kind frame lent)
 given-in-use (content-error kind slots count source numbers body-size code) is =
     subst Usable (sym is) (content-usable kind slots count source numbers body-size)
-given-in-use (write r source numbers body output w) is = write-usable r source numbers body output w is
-given-in-use (write-slots kind id version slots count source numbers body output w) is =
-    write-usable (recordOf kind id version slots count) source numbers body output w is
+given-in-use (write c r source numbers body output w) is = write-usable c r source numbers body output w is
+given-in-use (write-slots c kind id version slots count source numbers body output w) is =
+    write-usable c (recordOf kind id version slots count) source numbers body output w is
 given-in-use (queue-add q j a) is = as-number (a .error) (by-grounds (addEntry q j) refl a (add-gives q j a is))
 given-in-use (queue-take q a) is = as-number (a .error) (by-grounds (takeEntry q) refl a (take-gives q a is))
 given-in-use (queue-cancel q c r a) is = as-number (a .error) (by-grounds (cancelEntry q c r) refl a (cancel-gives q c r a is))
-given-in-use (trpc-header-check bytes code) is =
-    as-number code (by-grounds (headerCheck bytes) refl code (c-check bytes code is))
-given-in-use (trpc-header-parse bytes d) is = as-number (d .code) (by-grounds (cParseEntry bytes) refl d (c-parse bytes d is))
-given-in-use (trpc-deframe held error buffer piece d) is =
+given-in-use (trpc-header-check c bytes code) is =
+    as-number code (by-grounds (headerCheck c bytes) refl code (c-check c bytes code is))
+given-in-use (trpc-header-parse c bytes d) is = as-number (d .code) (by-grounds (cParseEntry c bytes) refl d (c-parse c bytes d is))
+given-in-use (trpc-deframe c held error buffer piece d) is =
     as-number (d .code)
-    (answer-usable (cDeframeEntry held error buffer piece) d (c-deframe held error buffer piece d is)
-    (deframe-in-use (deframerOf held error) buffer piece))
-given-in-use (trpc-finish held error buffer f) is =
+    (answer-usable (cDeframeEntry c held error buffer piece) d (c-deframe c held error buffer piece d is)
+    (deframe-in-use c (deframerOf held error) buffer piece))
+given-in-use (trpc-finish c held error buffer f) is =
     as-number (f .code)
-    (answer-usable (cFinishEntry held error buffer) f (c-finish held error buffer f is) (finish-in-use (deframerOf held error) buffer))
-given-in-use (trpc-read kind frame lent x) is =
-    as-number (x .code) (answer-usable (cReadEntry kind frame lent) x (c-read kind frame lent x is) (read-in-use kind frame lent))
-given-in-use (trpc-write kind numbers source rows body out w) is =
+    (answer-usable (cFinishEntry c held error buffer) f (c-finish c held error buffer f is)
+    (finish-in-use c (deframerOf held error) buffer))
+given-in-use (trpc-read c kind frame lent x) is =
+    as-number (x .code) (answer-usable (cReadEntry c kind frame lent) x (c-read c kind frame lent x is) (read-in-use c kind frame lent))
+given-in-use (trpc-write c kind numbers source rows body out w) is =
     as-number (w .code)
-    (by-grounds (cWriteEntry kind numbers source rows body out) refl w (c-write kind numbers source rows body out w is))
+    (by-grounds (cWriteEntry c kind numbers source rows body out) refl w (c-write c kind numbers source rows body out w is))
 given-in-use (trpc-queue-add q c r t a s) is =
     as-number (s .error) (by-grounds (addEntry q (newJob c r t a)) refl (addGave s) (c-add q s c r t a is))
 given-in-use (trpc-queue-take q s) is = as-number (s .error) (by-grounds (takeEntry q) refl (removalGave s) (c-take q s is))
 given-in-use (trpc-queue-cancel q c r s) is =
     as-number (s .error) (by-grounds (cancelEntry q c r) refl (removalGave s) (c-cancel q s c r is))
 
-pub never-retired : (c : AnyCall) → AsEnsured c → Among (numberIn c) retired → ⊥
-never-retired c is = not-retired (numberIn c) (given-in-use c is)
+pub never-retired : (call : AnyCall) → AsEnsured call → Among (numberIn call) retired → ⊥
+never-retired call is = not-retired (numberIn call) (given-in-use call is)
 
-pub never-eight : (c : AnyCall) → AsEnsured c → numberIn c ≡ 8 → ⊥
-never-eight c is eight = never-retired c is (subst (λ (n : ℕ). Among n retired) (sym eight) (is-in 8 retired refl))
+pub never-eight : (call : AnyCall) → AsEnsured call → numberIn call ≡ 8 → ⊥
+never-eight call is eight = never-retired call is (subst (λ (n : ℕ). Among n retired) (sym eight) (is-in 8 retired refl))
 
-pub never-twenty : (c : AnyCall) → AsEnsured c → numberIn c ≡ 20 → ⊥
-never-twenty c is twenty = never-retired c is (subst (λ (n : ℕ). Among n retired) (sym twenty) (is-in 20 retired refl))
+pub never-twenty : (call : AnyCall) → AsEnsured call → numberIn call ≡ 20 → ⊥
+never-twenty call is twenty = never-retired call is (subst (λ (n : ℕ). Among n retired) (sym twenty) (is-in 20 retired refl))
 
 -- ---- the number in a state of the deframer
 next-error : (p : Progress) (s : List ℕ) → nextState p s .error ≡ numberOf (progressSays p)
@@ -189,30 +191,31 @@ next-error (progress.Refused code) s = refl
 abbrev StateNumber : Deframer → Out → Type 0
 StateNumber state o = (o .step .next ≡ state) ⊎ (o .step .next .error ≡ numberOf (progressSays (o .step .progress)))
 
-by-definition : (state : Deframer) (buffer piece : List ℕ) → StateNumber state (deframed state buffer piece)
+by-definition : (c : ℕ) (state : Deframer) (buffer piece : List ℕ) → StateNumber state (deframed c state buffer piece)
 unfolding deframed
-by-definition state buffer piece =
+by-definition c state buffer piece =
     let s = stream (state .held) buffer piece in
-    either (StateNumber state) (ltb (length buffer) maxFrame) (inl refl)
-    (either (StateNumber state) (not (knownOf state buffer)) (inl refl)
+    either (StateNumber state) (not (ceilingOk c)) (inl refl)
+    (either (StateNumber state) (ltb (length buffer) c) (inl refl)
+    (either (StateNumber state) (not (knownOf c state buffer)) (inl refl)
     (either (StateNumber state) (not (eqb (state .error) 0)) (inl refl)
-    (inr (next-error (nextFrame s) s))))
+    (inr (next-error (nextFrame c s) s)))))
 
-pub state-number : (state : Deframer) (buffer piece : List ℕ) (o : Out) → Deframes state buffer piece o
+pub state-number : (c : ℕ) (state : Deframer) (buffer piece : List ℕ) (o : Out) → Deframes c state buffer piece o
     → (o .step .next ≡ state) ⊎ (o .step .next .error ≡ numberOf (progressSays (o .step .progress)))
-state-number state buffer piece o is =
+state-number c state buffer piece o is =
     subst (λ (x : deframer-step.Step). StateNumber state (record { step = x; buffer = o .buffer })) (sym (is .0))
-    (by-definition state buffer piece)
+    (by-definition c state buffer piece)
 
-pub c-state-number : (held error : ℕ) (buffer piece : List ℕ) (d : CDeframed) → CDeframes held error buffer piece d
+pub c-state-number : (c held error : ℕ) (buffer piece : List ℕ) (d : CDeframed) → CDeframes c held error buffer piece d
     → ((d .held ≡ held) × (d .error ≡ error)) ⊎ (d .error ≡ d .code)
-c-state-number held error buffer piece d is = by (by-definition (deframerOf held error) buffer piece)
+c-state-number c held error buffer piece d is = by (by-definition c (deframerOf held error) buffer piece)
   where
-    by : StateNumber (deframerOf held error) (deframedFrom held error buffer piece)
+    by : StateNumber (deframerOf held error) (deframedFrom c held error buffer piece)
         → ((d .held ≡ held) × (d .error ≡ error)) ⊎ (d .error ≡ d .code)
     by (inl same) =
         let left = is .state-is ∙ same in
         inl (ap (λ (x : Deframer). x .held) left, ap (λ (x : Deframer). x .error) left)
     by (inr number) =
         inr (ap (λ (x : Deframer). x .error) (is .state-is) ∙ number
-        ∙ sym (progress-number (deframedFrom held error buffer piece .step .progress)) ∙ sym (is .code-is))
+        ∙ sym (progress-number (deframedFrom c held error buffer piece .step .progress)) ∙ sym (is .code-is))

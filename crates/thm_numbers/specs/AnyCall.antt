@@ -1,5 +1,6 @@
 -- Any call of any entry that gives refusal numbers, in Rattle and for C, with any arguments and anything that the caller has afterwards;
--- that this is what the entry's contract ensures (`AsEnsured`); and the number in the answer, "0 or the refusal" (`numberIn`).
+-- that this is what the entry's contract ensures (`AsEnsured`); and the number in the answer, "0 or the refusal" (`numberIn`). Where an
+-- entry is given a ceiling, it is the first argument, c.
 -- Assumes nothing.
 use Prim.Native.Nat.{ℕ}
 use mathlib.Core.Path.{_≡_}
@@ -90,11 +91,11 @@ fieldNumber (fields.Refused code) = code
 -- ---- a call: its arguments, and what the caller has afterwards
 pub data AnyCall : Type 0 where
   -- `fixed_header`
-  check-header : (bytes : List ℕ) (code : ℕ) → AnyCall
-  parse-header : (bytes : List ℕ) (p : Parsed) → AnyCall
+  check-header : (c : ℕ) (bytes : List ℕ) (code : ℕ) → AnyCall
+  parse-header : (c : ℕ) (bytes : List ℕ) (p : Parsed) → AnyCall
   -- `deframer`
-  deframe : (state : Deframer) (buffer piece : List ℕ) (o : Out) → AnyCall
-  finish : (state : Deframer) (buffer : List ℕ) (e : End) → AnyCall
+  deframe : (c : ℕ) (state : Deframer) (buffer piece : List ℕ) (o : Out) → AnyCall
+  finish : (c : ℕ) (state : Deframer) (buffer : List ℕ) (e : End) → AnyCall
   -- `wire_read`
   read-varint : (s : List ℕ) (at end : ℕ) (v : Varint) → AnyCall
   read-tag : (s : List ℕ) (at end : ℕ) (t : Tag) → AnyCall
@@ -113,25 +114,26 @@ pub data AnyCall : Type 0 where
   -- `decoder`
   decode : (frame : List ℕ) (at end schema : ℕ) (lent : List ℕ) (d : Decoded) → AnyCall
   -- `message`
-  read-spans : (kind : Kind) (frame lent : List ℕ) (x : Located) (rows : List ℕ) → AnyCall
+  read-spans : (c : ℕ) (kind : Kind) (frame lent : List ℕ) (x : Located) (rows : List ℕ) → AnyCall
   -- `reader`
-  read : (kind : Kind) (frame lent : List ℕ) (x : Reading) → AnyCall
+  read : (c : ℕ) (kind : Kind) (frame lent : List ℕ) (x : Reading) → AnyCall
   -- `writer_checks`
   content-error : (kind : Kind) (slots : List ℕ) (count : ℕ) (source numbers : List ℕ) (body-size code : ℕ) → AnyCall
   -- `writer`
-  write : (r : Record) (source numbers body output : List ℕ) (w : Writing) → AnyCall
-  write-slots : (kind : Kind) (id version : ℕ) (slots : List ℕ) (count : ℕ) (source numbers body output : List ℕ) (w : Writing) → AnyCall
+  write : (c : ℕ) (r : Record) (source numbers body output : List ℕ) (w : Writing) → AnyCall
+  write-slots : (c : ℕ) (kind : Kind) (id version : ℕ) (slots : List ℕ) (count : ℕ) (source numbers body output : List ℕ) (w : Writing)
+      → AnyCall
   -- `queue`
   queue-add : (q : Queue) (j : Job) (a : Added) → AnyCall
   queue-take : (q : Queue) (a : Removed) → AnyCall
   queue-cancel : (q : Queue) (connection request : ℕ) (a : Removed) → AnyCall
   -- `bekurapi`: the six readers and the six writers by their kind
-  trpc-header-check : (bytes : List ℕ) (code : ℕ) → AnyCall
-  trpc-header-parse : (bytes : List ℕ) (d : CParsed) → AnyCall
-  trpc-deframe : (held error : ℕ) (buffer piece : List ℕ) (d : CDeframed) → AnyCall
-  trpc-finish : (held error : ℕ) (buffer : List ℕ) (f : CFinished) → AnyCall
-  trpc-read : (kind : Kind) (frame lent : List ℕ) (x : CRead) → AnyCall
-  trpc-write : (kind : Kind) (numbers source rows body out : List ℕ) (w : CWritten) → AnyCall
+  trpc-header-check : (c : ℕ) (bytes : List ℕ) (code : ℕ) → AnyCall
+  trpc-header-parse : (c : ℕ) (bytes : List ℕ) (d : CParsed) → AnyCall
+  trpc-deframe : (c held error : ℕ) (buffer piece : List ℕ) (d : CDeframed) → AnyCall
+  trpc-finish : (c held error : ℕ) (buffer : List ℕ) (f : CFinished) → AnyCall
+  trpc-read : (c : ℕ) (kind : Kind) (frame lent : List ℕ) (x : CRead) → AnyCall
+  trpc-write : (c : ℕ) (kind : Kind) (numbers source rows body out : List ℕ) (w : CWritten) → AnyCall
   -- `queue_in_place`
   trpc-queue-add : (q : Queue) (connection request timeout arrival : ℕ) (s : Seen) → AnyCall
   trpc-queue-take : (q : Queue) (s : Seen) → AnyCall
@@ -139,10 +141,10 @@ pub data AnyCall : Type 0 where
 
 -- ---- it gave what its contract ensures
 abbrev pub AsEnsured : AnyCall → Type 0
-AsEnsured (check-header bytes code) = code ≡ headerError bytes
-AsEnsured (parse-header bytes p) = p ≡ parsed bytes
-AsEnsured (deframe state buffer piece o) = Deframes state buffer piece o
-AsEnsured (finish state buffer e) = Finishes state buffer e
+AsEnsured (check-header c bytes code) = code ≡ headerError c bytes
+AsEnsured (parse-header c bytes p) = p ≡ parsed c bytes
+AsEnsured (deframe c state buffer piece o) = Deframes c state buffer piece o
+AsEnsured (finish c state buffer e) = Finishes c state buffer e
 AsEnsured (read-varint s at end v) = v ≡ varintAt at (varint (part s at end))
 AsEnsured (read-tag s at end t) = t ≡ tagAt at (tag (part s at end))
 AsEnsured (read-length s at end l) = l ≡ lengthAt at (lengthPrefix (part s at end))
@@ -156,32 +158,32 @@ AsEnsured (write-tag n w out at x) = Tagged n w out at (putTag n w) x
 AsEnsured (write-raw content out at x) = Raw out at content x
 AsEnsured (write-bytes n content out at x) = Tagged n 2 out at (putBytes n content) x
 AsEnsured (decode frame at end schema lent d) = d ≡ decoded frame at end schema lent .answer
-AsEnsured (read-spans kind frame lent x rows) = Locates kind frame lent x rows
-AsEnsured (read kind frame lent x) = Reads kind frame lent x
+AsEnsured (read-spans c kind frame lent x rows) = Locates c kind frame lent x rows
+AsEnsured (read c kind frame lent x) = Reads c kind frame lent x
 AsEnsured (content-error kind slots count source numbers body-size code) =
     code ≡ contentError kind slots count source numbers body-size
-AsEnsured (write r source numbers body output w) = Writes r source numbers body output w
-AsEnsured (write-slots kind id version slots count source numbers body output w) =
-    Writes (recordOf kind id version slots count) source numbers body output w
+AsEnsured (write c r source numbers body output w) = Writes c r source numbers body output w
+AsEnsured (write-slots c kind id version slots count source numbers body output w) =
+    Writes c (recordOf kind id version slots count) source numbers body output w
 AsEnsured (queue-add q j a) = a ≡ added q j
 AsEnsured (queue-take q a) = a ≡ taken q
 AsEnsured (queue-cancel q connection request a) = a ≡ cancelled q connection request
-AsEnsured (trpc-header-check bytes code) = CChecks bytes code
-AsEnsured (trpc-header-parse bytes d) = CParses bytes d
-AsEnsured (trpc-deframe held error buffer piece d) = CDeframes held error buffer piece d
-AsEnsured (trpc-finish held error buffer f) = CFinishes held error buffer f
-AsEnsured (trpc-read kind frame lent x) = CReads kind frame lent x
-AsEnsured (trpc-write kind numbers source rows body out w) = CWrites kind numbers source rows body out w
+AsEnsured (trpc-header-check c bytes code) = CChecks c bytes code
+AsEnsured (trpc-header-parse c bytes d) = CParses c bytes d
+AsEnsured (trpc-deframe c held error buffer piece d) = CDeframes c held error buffer piece d
+AsEnsured (trpc-finish c held error buffer f) = CFinishes c held error buffer f
+AsEnsured (trpc-read c kind frame lent x) = CReads c kind frame lent x
+AsEnsured (trpc-write c kind numbers source rows body out w) = CWrites c kind numbers source rows body out w
 AsEnsured (trpc-queue-add q connection request timeout arrival s) = calls.Ensured q (calls.add connection request timeout arrival) s
 AsEnsured (trpc-queue-take q s) = calls.Ensured q calls.take s
 AsEnsured (trpc-queue-cancel q connection request s) = calls.Ensured q (calls.cancel connection request) s
 
 -- ---- the number in the answer, 0 for none
 abbrev pub numberIn : AnyCall → ℕ
-numberIn (check-header bytes code) = code
-numberIn (parse-header bytes p) = numberOf (parsedSays p)
-numberIn (deframe state buffer piece o) = numberOf (progressSays (o .step .progress))
-numberIn (finish state buffer e) = numberOf (endSays e)
+numberIn (check-header c bytes code) = code
+numberIn (parse-header c bytes p) = numberOf (parsedSays p)
+numberIn (deframe c state buffer piece o) = numberOf (progressSays (o .step .progress))
+numberIn (finish c state buffer e) = numberOf (endSays e)
 numberIn (read-varint s at end v) = varintNumber v
 numberIn (read-tag s at end t) = tagNumber t
 numberIn (read-length s at end l) = lengthNumber l
@@ -195,20 +197,20 @@ numberIn (write-tag n w out at x) = numberOf (verdictOf (x .answer))
 numberIn (write-raw content out at x) = numberOf (verdictOf (x .answer))
 numberIn (write-bytes n content out at x) = numberOf (verdictOf (x .answer))
 numberIn (decode frame at end schema lent d) = d .error
-numberIn (read-spans kind frame lent x rows) = numberOf (answerSays (x .answer))
-numberIn (read kind frame lent x) = numberOf (answerSays (x .answer))
+numberIn (read-spans c kind frame lent x rows) = numberOf (answerSays (x .answer))
+numberIn (read c kind frame lent x) = numberOf (answerSays (x .answer))
 numberIn (content-error kind slots count source numbers body-size code) = code
-numberIn (write r source numbers body output w) = numberOf (encodedSays (w .answer))
-numberIn (write-slots kind id version slots count source numbers body output w) = numberOf (encodedSays (w .answer))
+numberIn (write c r source numbers body output w) = numberOf (encodedSays (w .answer))
+numberIn (write-slots c kind id version slots count source numbers body output w) = numberOf (encodedSays (w .answer))
 numberIn (queue-add q j a) = a .error
 numberIn (queue-take q a) = a .error
 numberIn (queue-cancel q connection request a) = a .error
-numberIn (trpc-header-check bytes code) = code
-numberIn (trpc-header-parse bytes d) = d .code
-numberIn (trpc-deframe held error buffer piece d) = d .code
-numberIn (trpc-finish held error buffer f) = f .code
-numberIn (trpc-read kind frame lent x) = x .code
-numberIn (trpc-write kind numbers source rows body out w) = w .code
+numberIn (trpc-header-check c bytes code) = code
+numberIn (trpc-header-parse c bytes d) = d .code
+numberIn (trpc-deframe c held error buffer piece d) = d .code
+numberIn (trpc-finish c held error buffer f) = f .code
+numberIn (trpc-read c kind frame lent x) = x .code
+numberIn (trpc-write c kind numbers source rows body out w) = w .code
 numberIn (trpc-queue-add q connection request timeout arrival s) = s .error
 numberIn (trpc-queue-take q s) = s .error
 numberIn (trpc-queue-cancel q connection request s) = s .error

@@ -20,7 +20,7 @@ use Rattle.fixed_header.specs.Header.{headerError}
 use Rattle.fixed_header.proofs.check_header as check
 
 pub header-ensures : {M : Type 1} (𝓤 : URA M) (H : Heap 𝓤) (A : Atoms 𝓤) (mem : Memory → SProp 𝓤) (run : Routine → Fun 𝓤) (κ : Lft)
-    (bytes : RefT (List ℕ)) (r : ℕ)
-    → check.clauses 𝓤 H A mem run (κ, tt) (bytes, tt) .ensures tt r (atExit check.ended (κ, tt) (bytes, tt) (tt, tt))
-    ≡ fact 𝓤 (r ≡ headerError (now bytes))
-header-ensures 𝓤 H A mem run κ bytes r = refl
+    (bytes : RefT (List ℕ)) (c r : ℕ)
+    → check.clauses 𝓤 H A mem run (κ, tt) (bytes, (c, tt)) .ensures tt r (atExit check.ended (κ, tt) (bytes, (c, tt)) (tt, (tt, tt)))
+    ≡ fact 𝓤 (r ≡ headerError c (now bytes))
+header-ensures 𝓤 H A mem run κ bytes c r = refl

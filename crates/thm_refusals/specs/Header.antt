@@ -1,11 +1,11 @@
--- The fixed header. "Order: judge 9, then 3 to 8", of which document 02 takes out 8.
+-- The fixed header. "Order: judge 9, then 3 to 8", of which document 02 takes out 8 and before which it puts 41.
 -- Assumes nothing.
 use Prim.Native.Nat.{ℕ, _-_, _≤_}
 use mathlib.Core.Path.{_≡_}
 use mathlib.Core.Logic.{_⊎_}
 use mathlib.Core.List.{List, [], _∷_}
 use lib.ListN.{length, getD}
-use Rattle.fixed_header.specs.Header.{maxFrame, totalOf, headerSizeOf}
+use Rattle.fixed_header.specs.Header.{WrongCeiling, totalOf, headerSizeOf}
 use Rattle.refusals.specs.Grounds.{Ground, ground, Entry, numbered}
 
 -- the paper's byte n of a header, counted from 1: n is never 0 below
@@ -30,26 +30,26 @@ WrongDataType h = (byte h 3 ≡ 0) ⊎ (byte h 3 ≡ 1) → ⊥
 abbrev pub WrongStreamType : List ℕ → Type 0
 WrongStreamType h = Unary h ⊎ ((1 ≤ byte h 4) × (byte h 4 ≤ 4)) → ⊥
 
--- "5-8 | total size, these 16 included | 16 to 65,536"
-abbrev pub WrongTotal : List ℕ → Type 0
-WrongTotal h = (16 ≤ totalOf h) × (totalOf h ≤ maxFrame) → ⊥
+-- "5-8 | total size, these 16 included | 16 to 65,536"; document 02, P11: "1, 6 and 19 speak of the ceiling"
+abbrev pub WrongTotal : (c : ℕ) → List ℕ → Type 0
+WrongTotal c h = (16 ≤ totalOf h) × (totalOf h ≤ c) → ⊥
 
 -- "9-10 | header size | unary: at most total less 16; stream: 0". A total below 16, of which 16 cannot be taken, is 6 before.
 abbrev pub WrongHeaderSize : List ℕ → Type 0
 WrongHeaderSize h = (Unary h × (headerSizeOf h ≤ totalOf h - 16)) ⊎ ((Unary h → ⊥) × (headerSizeOf h ≡ 0)) → ⊥
 
-abbrev pub faults : List ℕ → List Ground
-faults h =
+abbrev pub faults : (c : ℕ) → List ℕ → List Ground
+faults c h =
     ground 3 (WrongMagic h)
     ∷ ground 4 (WrongDataType h)
     ∷ ground 5 (WrongStreamType h)
-    ∷ ground 6 (WrongTotal h)
+    ∷ ground 6 (WrongTotal c h)
     ∷ ground 7 (WrongHeaderSize h)
     ∷ []
 
--- ---- `check_header`: "9 | length isn't the total (judge: not 16)"; "gets a number: 0 or the refusal"
-abbrev pub headerGrounds : List ℕ → List Ground
-headerGrounds h = ground 9 (length h ≡ 16 → ⊥) ∷ faults h
+-- ---- `check_header`: 41 "before all others"; "9 | length isn't the total (judge: not 16)"; "gets a number: 0 or the refusal"
+abbrev pub headerGrounds : (c : ℕ) → List ℕ → List Ground
+headerGrounds c h = ground 41 (WrongCeiling c) ∷ ground 9 (length h ≡ 16 → ⊥) ∷ faults c h
 
-abbrev pub headerCheck : List ℕ → Entry ℕ
-headerCheck h = numbered (headerGrounds h)
+abbrev pub headerCheck : (c : ℕ) → List ℕ → Entry ℕ
+headerCheck c h = numbered (headerGrounds c h)

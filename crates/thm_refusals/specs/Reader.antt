@@ -1,5 +1,5 @@
 -- The reader. "Reader: 16; fewer than 16 bytes is 9; 3 to 8; 9; then fields from left to right, at each place tag 10, 11, 13, value 10, 12,
--- then 14 before an entry's inside; 15 last", of which document 02 takes out 8.
+-- then 14 before an entry's inside; 15 last", of which document 02 takes out 8 and before which it puts 41.
 -- Assumes nothing.
 use Prim.Native.Nat.{ℕ, _<_}
 use mathlib.Core.Path.{_≡_}
@@ -7,7 +7,7 @@ use mathlib.Core.Bool.{cond, _&&_}
 use mathlib.Core.List.{List, [], _∷_, _++_}
 use lib.Dec.{leb}
 use lib.ListN.{length, take}
-use Rattle.fixed_header.specs.Header.{totalOf, idOf, versionOf}
+use Rattle.fixed_header.specs.Header.{WrongCeiling, totalOf, idOf, versionOf}
 use Rattle.decoder.specs.Rows.{rowNumbers, laidOut}
 use Rattle.decoder.specs.Fields.{State, Result, ok, refused, blank, readMessage}
 use Rattle.schema.specs.Kinds.{schemaOf}
@@ -49,12 +49,13 @@ stateRead (refused code) = blank
 abbrev pub AttachmentLarger : Kind → (frame : List ℕ) → Result → Type 0
 AttachmentLarger kind f x = length (bodyOf kind f) < attachmentSizeOf kind (stateRead x .slots)
 
-abbrev pub readGrounds : Kind → (frame lent : List ℕ) → List Ground
-readGrounds kind f lent =
-    -- "row slice under 256 numbers"; "fewer than 16 bytes is 9"
-    ground 16 (length lent < rowNumbers)
+abbrev pub readGrounds : (c : ℕ) → Kind → (frame lent : List ℕ) → List Ground
+readGrounds c kind f lent =
+    -- 41 "before all others"; "row slice under 256 numbers"; "fewer than 16 bytes is 9"
+    ground 41 (WrongCeiling c)
+    ∷ ground 16 (length lent < rowNumbers)
     ∷ ground 9 (length f < 16)
-    ∷ (faults (take 16 f)
+    ∷ (faults c (take 16 f)
     ++ ground 9 (length f ≡ totalOf f → ⊥)
     ∷ ground 9 (OfKind kind f → ⊥)
     ∷ (fieldGrounds kind f
@@ -82,10 +83,10 @@ readWork kind f lent st =
       rows = laidOut (st .rows) lent;
     }
 
-abbrev pub readEntry : Kind → (frame lent : List ℕ) → Entry Reading
-readEntry kind f lent =
+abbrev pub readEntry : (c : ℕ) → Kind → (frame lent : List ℕ) → Entry Reading
+readEntry c kind f lent =
     record {
-      grounds = readGrounds kind f lent;
+      grounds = readGrounds c kind f lent;
       says = λ x. answerSays (x .answer);
       refusal = readRefusal lent;
       work = readWork kind f lent (stateRead (fieldsRead kind f));

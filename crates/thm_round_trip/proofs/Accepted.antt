@@ -4,12 +4,12 @@ use mathlib.Core.Path.{_≡_, refl}
 use mathlib.Core.Bool.{Bool, true, false, cond, _||_}
 use mathlib.Core.List.{List, []}
 use native.Mathlib.Omega.{arith}
-use borrow.Author.Tests.{leb-true, eqb-true, eqb-false}
+use borrow.Author.Tests.{eqb-true}
 use lib.Dec.{eqb, leb, leb·zero}
 use lib.ListN.{length, take, drop}
 use lib.Seq.{take-append-seam}
-use Rattle.fixed_header.specs.Header.{maxFrame}
-use Rattle.laws.proofs.Booleans.{clash, kept}
+use Rattle.fixed_header.specs.Header.{maxFrame, CeilingOk}
+use Rattle.laws.proofs.Booleans.{clash}
 use Rattle.decoder.specs.Rows.{rowsIn}
 use Rattle.schema.specs.Kinds.{schemaOf}
 use Rattle.records.specs.Records.{attachmentSizeOf}
@@ -17,42 +17,43 @@ use Rattle.schema.specs.declared.Kind.{Kind}
 use Rattle.schema.specs.declared.Kind.the-variants as kinds
 use Rattle.records.specs.declared.Record.{Record}
 use Rattle.records.specs.Content.{kindOf, rowCount, slotsOf}
-use Rattle.writer_checks.specs.Grounds.{hasMap, bodyOk, contentError}
+use Rattle.writer_checks.specs.Grounds.{hasMap, bodyOk}
 use Rattle.writer_checks.proofs.Accepted as content
-use Rattle.writer.specs.Writing.{frameOf, sizeError, writeError, wrote, refusedWith}
+use Rattle.writer.specs.Writing.{frameOf, writeError, wrote, refusedWith, written}
 use Rattle.writer.specs.declared.Encoded.the-variants.{Frame}
+use Rattle.writer.proofs.Under.{no-content-error, accepted-within}
 use Rattle.thm_round_trip.proofs.Said.{hasRows, keptRows}
 
-pub record WriteAccepted (r : Record) (source numbers body : List ℕ) : Type 0 where
+-- under the ceiling c
+pub record WriteAccepted (c : ℕ) (r : Record) (source numbers body : List ℕ) : Type 0 where
+  pub ceiling : CeilingOk c
   pub content : content.Accepted (kindOf r) (slotsOf r) (rowCount r) source numbers (length body)
-  pub small : length (frameOf r source numbers body) ≤ maxFrame
+  pub small : length (frameOf r source numbers body) ≤ c
 
--- a code of 0, and what later ones say
-no-code : (code later : ℕ) → cond (eqb code 0) later code ≡ 0 → (code ≡ 0) × (later ≡ 0)
-no-code code later e = by (eqb code 0) refl e
-  where
-    by : (b : Bool) → eqb code 0 ≡ b → cond b later code ≡ 0 → (code ≡ 0) × (later ≡ 0)
-    by true z e = (eqb-true code 0 z, e)
-    by false z e = absurd (eqb-false code 0 z e)
-
-pub write-accepted : (r : Record) (source numbers body : List ℕ) (room : ℕ) → writeError r source numbers body room ≡ 0
-    → WriteAccepted r source numbers body
-unfolding writeError sizeError
-write-accepted r source numbers body room e =
-    let total = length (frameOf r source numbers body) in
-    let code = contentError (kindOf r) (slotsOf r) (rowCount r) source numbers (length body) in
-    let none = no-code code (sizeError total room) e in
+write-accepted : (c : ℕ) (r : Record) (source numbers body : List ℕ) (room : ℕ) → writeError c r source numbers body room ≡ 0
+    → WriteAccepted c r source numbers body
+write-accepted c r source numbers body room e =
+    let within = accepted-within c r source numbers body room e in
     record {
-      content = content.accepted (kindOf r) (slotsOf r) (rowCount r) source numbers (length body) (none .0);
-      small = leb-true _ _ (kept (leb total maxFrame) _ _ (omega arith) (none .1) .0);
+      ceiling = within .0;
+      content =
+          content.accepted (kindOf r) (slotsOf r) (rowCount r) source numbers (length body)
+          (no-content-error c r source numbers body room e);
+      small = within .1;
     }
 
--- the answer that a frame was written, and the frame in the output
-pub record Done (frame : List ℕ) (error size : ℕ) (output : List ℕ) : Type 0 where
-  pub no-error : error ≡ 0
-  pub frame-is : take size output ≡ frame
+-- and so under each that is larger
+pub accepted-larger : (c d : ℕ) → c ≤ d → d ≤ maxFrame → (r : Record) (source numbers body : List ℕ)
+    → WriteAccepted c r source numbers body → WriteAccepted d r source numbers body
+accepted-larger c d more most r source numbers body is =
+    record { ceiling = (omega (arith, is .ceiling), most); content = is .content; small = omega (arith, is .small) }
 
-pub done : (frame output : List ℕ) (error size : ℕ)
+-- ---- the answer that a frame was written
+record Done (frame : List ℕ) (error size : ℕ) (output : List ℕ) : Type 0 where
+  no-error : error ≡ 0
+  is-frame : take size output ≡ frame
+
+done : (frame output : List ℕ) (error size : ℕ)
     → cond (eqb error 0) (wrote frame output) (refusedWith error output) .answer ≡ Frame size
     → Done frame error size (cond (eqb error 0) (wrote frame output) (refusedWith error output) .output)
 done frame output error size = by (eqb error 0) refl
@@ -61,8 +62,19 @@ done frame output error size = by (eqb error 0) refl
         → Done frame error size (cond b (wrote frame output) (refusedWith error output) .output)
     by true e a =
         let is : length frame ≡ size = cc in
-        record { no-error = eqb-true error 0 e; frame-is = rw (← is) (take-append-seam frame (drop (length frame) output)) }
+        record { no-error = eqb-true error 0 e; is-frame = rw (← is) (take-append-seam frame (drop (length frame) output)) }
     by false e a = clash cc
+
+-- the frame is in the output, and the record was accepted
+pub record Framed (c : ℕ) (r : Record) (source numbers body output : List ℕ) (size : ℕ) : Type 0 where
+  pub frame-is : take size (written c r source numbers body output .output) ≡ frameOf r source numbers body
+  pub accepted : WriteAccepted c r source numbers body
+
+pub framed : (c : ℕ) (r : Record) (source numbers body output : List ℕ) (size : ℕ)
+    → written c r source numbers body output .answer ≡ Frame size → Framed c r source numbers body output size
+framed c r source numbers body output size e =
+    let d = done (frameOf r source numbers body) output (writeError c r source numbers body (length output)) size e in
+    record { frame-is = d .is-frame; accepted = write-accepted c r source numbers body (length output) (d .no-error) }
 
 -- ---- rows and body by the kind
 no-rows : (count : ℕ) (numbers : List ℕ) → eqb count 0 ≡ true → [] ≡ rowsIn count numbers

@@ -1,7 +1,7 @@
 -- For a user: what `read_spans` and `read` hand out lies within the frame, by their contracts only.
 --
--- Promised, of any call that gave what its contract ensures (for `read` that is `Reads` of `thm_stream`): every start and length that it
--- gave lies within the frame that it was given.
+-- Promised, of any call, under any ceiling, that gave what its contract ensures (for `read` that is `Reads` of `thm_stream`): every start
+-- and length that it gave lies within the frame that it was given.
 -- Not promised: anything of a frame that the caller changes after the call.
 -- Ruled out: a contract that leaves open where a byte field lies, or the row numbers.
 -- Assumes nothing.
@@ -19,13 +19,13 @@ use Rattle.thm_round_trip.specs.ReadWithin.{ReadWithin}
 use Rattle.thm_round_trip.specs.Calls.{Locates}
 use Rattle.thm_round_trip.proofs.ReadWithin.{read-within}
 
-pub located-within : (kind : Kind) (frame lent : List ℕ) (x : Located) (rows : List ℕ) → Locates kind frame lent x rows
+pub located-within : (c : ℕ) (kind : Kind) (frame lent : List ℕ) (x : Located) (rows : List ℕ) → Locates c kind frame lent x rows
     → ReadWithin frame x rows
-located-within kind frame lent x rows e =
-    subst (λ (y : Located). ReadWithin frame y rows) (sym (e .0)) (subst (ReadWithin frame _) (sym (e .1)) (read-within frame kind lent))
+located-within c kind frame lent x rows e =
+    subst (λ (y : Located). ReadWithin frame y rows) (sym (e .0)) (subst (ReadWithin frame _) (sym (e .1)) (read-within c frame kind lent))
 
-pub called-within : (kind : Kind) (frame lent : List ℕ) (x : Reading) → Reads kind frame lent x
+pub called-within : (c : ℕ) (kind : Kind) (frame lent : List ℕ) (x : Reading) → Reads c kind frame lent x
     → ReadWithin frame (spansOf x (length frame)) (x .rows)
-called-within kind frame lent x e =
-    subst (λ (y : Reading). ReadWithin frame (spansOf y (length frame)) (y .rows)) (sym (all-read kind frame lent x e))
-    (read-within frame kind lent)
+called-within c kind frame lent x e =
+    subst (λ (y : Reading). ReadWithin frame (spansOf y (length frame)) (y .rows)) (sym (all-read c kind frame lent x e))
+    (read-within c frame kind lent)

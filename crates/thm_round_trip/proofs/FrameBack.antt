@@ -1,5 +1,5 @@
--- What the writer's frame says of itself: its fixed header is good and gives its sizes, its id, its version and its kind, and its parts
--- are the message and the body. The round trip of the 16 bytes is that of `fixed_header`.
+-- What the writer's frame says of itself: its fixed header is good under 65,536 and gives its sizes, its id, its version and its kind, and
+-- its parts are the message and the body. The round trip of the 16 bytes is that of `fixed_header`.
 use Prim.Native.Nat.{ℕ, _+_, _-_, _^_, _<_, _≤_}
 use mathlib.Core.Path.{_≡_, refl, sym, _∙_}
 use mathlib.Core.Bool.{true}
@@ -9,11 +9,12 @@ use borrow.Author.Tests.{le-leb, eqb-true}
 use lib.Dec.{eqb}
 use lib.ListN.{length, take, drop, getD, length-append}
 use lib.Seq.{take-at, drop-at, take-append-seam, drop-append-seam, drop-drop}
-use Rattle.fixed_header.specs.Header.{maxFrame, headerSizeOf, totalOk, headerSizeOk}
+use Rattle.fixed_header.specs.Header.{maxFrame, be16Of, be32Of, totalOf, headerSizeOf, totalOk, headerSizeOk}
 use Rattle.fixed_header.specs.Put.{dataType, streamType, fixedHeader}
 use Rattle.fixed_header.specs.declared.FrameType.{FrameType}
 use Rattle.fixed_header.specs.declared.FrameType.the-variants.{Unary, Init, Data, Feedback, Close}
 use Rattle.fixed_header.specs.Put.{Keeps}
+use Rattle.fixed_header.proofs.Codes.{largest}
 use Rattle.fixed_header.proofs.RoundTrip.{sixteen-bytes, total-back, size-back, id-back, version-back, header-good}
 use Rattle.decoder.specs.Rows.{Row}
 use Rattle.schema.specs.Kinds.{schemaOf}
@@ -69,10 +70,11 @@ module _ (kind : Kind) (id version : ℕ) (message body : List ℕ) where
   kind-back rest = kind-fits kind
 
   module _ (small : total ≤ maxFrame) (id-small : id < 2 ^ 32) (version-small : version < 2 ^ 8) where
-    keeps : Keeps (headerFor kind id version message body)
+    keeps : Keeps maxFrame (headerFor kind id version message body)
     unfolding totalOk
     keeps =
         record {
+          in-range = largest;
           total-good = rw (le-leb 16 total (omega arith), le-leb total maxFrame small);
           size-good = size-fits (frameTypeOf kind) (length message) total (omega arith);
           id-small = id-small;
@@ -85,13 +87,20 @@ module _ (kind : Kind) (id version : ℕ) (message body : List ℕ) where
         let h = headerFor kind id version message body in
         rw frame-splits
         (record {
-          good = rw (take-at header (message ++ body) 16 sixteen) (header-good h keeps);
-          total-is = rw (← frame-splits) frame-length ∙ sym (total-back h keeps (message ++ body));
+          good = rw (take-at header (message ++ body) 16 sixteen) (header-good maxFrame h keeps);
+          total-is = rw (← frame-splits) frame-length ∙ sym (total-back maxFrame h keeps (message ++ body));
           fits = kind-back (message ++ body);
-          size-is = sym (size-back h keeps (message ++ body));
-          id-is = sym (id-back h keeps (message ++ body));
-          version-is = sym (version-back h keeps (message ++ body));
+          size-is = sym (size-back maxFrame h keeps (message ++ body));
+          id-is = sym (id-back maxFrame h keeps (message ++ body));
+          version-is = sym (version-back maxFrame h keeps (message ++ body));
         })
+
+-- the total that it says is its length, whatever its id and its version are: they are in other bytes
+pub total-said : (kind : Kind) (id version : ℕ) (message body : List ℕ) → 16 + length message + length body ≤ maxFrame
+    → totalOf (fixedHeader (headerFor kind id version message body) ++ message ++ body) ≡ 16 + length message + length body
+unfolding fixedHeader totalOf be32Of be16Of
+total-said kind id version message body small =
+    total-back maxFrame (headerFor kind 0 0 message body) (keeps kind 0 0 message body small (omega arith) (omega arith)) (message ++ body)
 
 -- ---- the parts
 empty-list : (l : List ℕ) → length l ≡ 0 → l ≡ []

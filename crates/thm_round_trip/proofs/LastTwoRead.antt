@@ -1,24 +1,25 @@
 -- For a user: a reader accepts all versions and ignores byte 16 (document 02, P2), on the definition that the contracts of `read` and
 -- `read_spans` name, and of calls of `read`.
 --
--- Promised, for every kind and any row numbers lent, of two frames of one length that agree on their first 14 bytes and on all bytes after
--- the 16th: they are read alike but for the version (`only-the-version`). Both are refused with the same number, or both are read, and then
--- every number, start, length and present mark of the records, the row numbers, and the bytes of header, body and attachment are the same;
--- the version is that of the frame's own byte 15. If they agree on byte 15, too, then all of it is the same (`byte-16-ignored`).
--- Two calls of `read` that gave what its contract ensures gave just that (`called-only-the-version`, `called-byte-16-ignored`).
+-- Promised, for every ceiling and kind and any row numbers lent, of two frames of one length that agree on their first 14 bytes and on all
+-- bytes after the 16th: they are read alike but for the version (`only-the-version`). Both are refused with the same number, or both are
+-- read, and then every number, start, length and present mark of the records, the row numbers, and the bytes of header, body and attachment
+-- are the same; the version is that of the frame's own byte 15. If they agree on byte 15, too, then all of it is the same
+-- (`byte-16-ignored`). Two calls of `read` under one ceiling that gave what its contract ensures gave just that
+-- (`called-only-the-version`, `called-byte-16-ignored`).
 -- Not promised: what the frames' other bytes are read as, which the round trip says.
 -- Ruled out: a reader that refuses a version or reads the fields of one version in another way, one that looks at byte 16, and one that
 -- takes a key, or any other part of a message, from the 16 bytes before it.
 -- Assumes nothing.
 use Prim.Native.Nat.{ℕ, _+_}
 use mathlib.Core.Path.{_≡_, refl, sym, ap, ap₂, subst, _∙_}
-use mathlib.Core.Bool.{Bool, true, false, cond, _&&_}
+use mathlib.Core.Bool.{Bool, true, false, not, cond, _&&_}
 use mathlib.Core.List.{List, []}
 use native.Mathlib.Omega.{arith}
 use lib.Dec.{eqb, ltb, leb}
 use lib.ListN.{length, take, drop, getD}
 use lib.Seq.{drop-drop}
-use Rattle.fixed_header.specs.Header.{headerError, totalOf, headerSizeOf, idOf, versionOf}
+use Rattle.fixed_header.specs.Header.{ceilingOk, headerError, totalOf, headerSizeOf, idOf, versionOf}
 use Rattle.fixed_header.proofs.LastTwo.{same-byte, same-total, same-header-size, same-id, first-error, same-14, same-version}
 use Rattle.decoder.specs.Rows.{rowNumbers, laidOut}
 use Rattle.decoder.specs.Fields.{State, Result, ok, refused, readMessage}
@@ -57,7 +58,7 @@ refused-alike : (w code : ℕ) (lent : List ℕ) → Versioned w (refusedUntouch
 refused-alike w code lent = record { is = refl }
 
 module _ (f g : List ℕ) (long : length f ≡ length g) (front : take 14 f ≡ take 14 g) (tail : drop 16 f ≡ drop 16 g) where
-  same-error : headerError (take 16 f) ≡ headerError (take 16 g)
+  same-error : (c : ℕ) → headerError c (take 16 f) ≡ headerError c (take 16 g)
   same-error = first-error f g long front
 
   same-header : (kind : Kind) → headerOf kind f ≡ headerOf kind g
@@ -111,43 +112,45 @@ module _ (f g : List ℕ) (long : length f ≡ length g) (front : take 14 f ≡ 
         ≡ eqb (length g) (totalOf g) && kindFits kind (getD g 2 0) (getD g 3 0)
     same-fit = rw (long, same-total f g front, same-byte f g front 2 (omega arith), same-byte f g front 3 (omega arith)) refl
 
-    same-frame : Same (readFrame kind f lent) (readFrame kind g lent)
+    same-frame : (c : ℕ) → Same (readFrame c kind f lent) (readFrame c kind g lent)
     unfolding readFrame
-    same-frame =
+    same-frame c =
         let w = versionOf g in
         let o = readMessage f (schemaOf kind) 16 (headerOf kind f) in
+        let bad = not (ceilingOk c) in
         let few = ltb (length lent) rowNumbers in
-        same-case w few few refl (refused-alike w 16 lent)
+        same-case w bad bad refl (refused-alike w 41 lent)
+        (same-case w few few refl (refused-alike w 16 lent)
         (same-case w _ _ (ap (λ (n : ℕ). ltb n 16) long) (refused-alike w 9 lent)
-        (same-case w _ _ (ap (λ (n : ℕ). eqb n 0) same-error)
+        (same-case w _ _ (ap (λ (n : ℕ). eqb n 0) (same-error c))
         (same-case w _ _ same-fit
         (subst (λ (p : Result). Same (answered kind f lent o) (answered kind g lent p)) same-message (same-answer o))
         (refused-alike w 9 lent))
-        (subst (λ (code : ℕ). Same (refusedUntouched (headerError (take 16 f)) lent) (refusedUntouched code lent)) same-error
-        (refused-alike w (headerError (take 16 f)) lent))))
+        (subst (λ (code : ℕ). Same (refusedUntouched (headerError c (take 16 f)) lent) (refusedUntouched code lent)) (same-error c)
+        (refused-alike w (headerError c (take 16 f)) lent)))))
 
-pub only-the-version : (kind : Kind) (f g lent : List ℕ) → length f ≡ length g → take 14 f ≡ take 14 g → drop 16 f ≡ drop 16 g
-    → readFrame kind g lent ≡ readingVersioned (versionOf g) (readFrame kind f lent)
-only-the-version kind f g lent long front tail = same-frame f g long front tail kind lent .is
+pub only-the-version : (c : ℕ) (kind : Kind) (f g lent : List ℕ) → length f ≡ length g → take 14 f ≡ take 14 g → drop 16 f ≡ drop 16 g
+    → readFrame c kind g lent ≡ readingVersioned (versionOf g) (readFrame c kind f lent)
+only-the-version c kind f g lent long front tail = same-frame f g long front tail kind lent c .is
 
-pub byte-16-ignored : (kind : Kind) (f g lent : List ℕ) → length f ≡ length g → take 15 f ≡ take 15 g → drop 16 f ≡ drop 16 g
-    → readFrame kind g lent ≡ readFrame kind f lent
-byte-16-ignored kind f g lent long front tail =
-    only-the-version kind f g lent long (same-14 f g front) tail
-    ∙ ap (λ (v : ℕ). readingVersioned v (readFrame kind f lent)) (sym (same-version f g front))
-    ∙ sym (only-the-version kind f f lent refl refl refl)
+pub byte-16-ignored : (c : ℕ) (kind : Kind) (f g lent : List ℕ) → length f ≡ length g → take 15 f ≡ take 15 g → drop 16 f ≡ drop 16 g
+    → readFrame c kind g lent ≡ readFrame c kind f lent
+byte-16-ignored c kind f g lent long front tail =
+    only-the-version c kind f g lent long (same-14 f g front) tail
+    ∙ ap (λ (v : ℕ). readingVersioned v (readFrame c kind f lent)) (sym (same-version f g front))
+    ∙ sym (only-the-version c kind f f lent refl refl refl)
 
--- ---- calls of `read`: x is what the call on f gave, y what the call on g gave
-pub called-only-the-version : (kind : Kind) (f g lent : List ℕ) (x y : Reading)
-    → length f ≡ length g → take 14 f ≡ take 14 g → drop 16 f ≡ drop 16 g → Reads kind f lent x → Reads kind g lent y
+-- ---- calls of `read` under one ceiling: x is what the call on f gave, y what the call on g gave
+pub called-only-the-version : (c : ℕ) (kind : Kind) (f g lent : List ℕ) (x y : Reading)
+    → length f ≡ length g → take 14 f ≡ take 14 g → drop 16 f ≡ drop 16 g → Reads c kind f lent x → Reads c kind g lent y
     → y ≡ readingVersioned (versionOf g) x
-called-only-the-version kind f g lent x y long front tail reads-f reads-g =
-    all-read kind g lent y reads-g
-    ∙ only-the-version kind f g lent long front tail
-    ∙ ap (readingVersioned (versionOf g)) (sym (all-read kind f lent x reads-f))
+called-only-the-version c kind f g lent x y long front tail reads-f reads-g =
+    all-read c kind g lent y reads-g
+    ∙ only-the-version c kind f g lent long front tail
+    ∙ ap (readingVersioned (versionOf g)) (sym (all-read c kind f lent x reads-f))
 
-pub called-byte-16-ignored : (kind : Kind) (f g lent : List ℕ) (x y : Reading)
-    → length f ≡ length g → take 15 f ≡ take 15 g → drop 16 f ≡ drop 16 g → Reads kind f lent x → Reads kind g lent y
+pub called-byte-16-ignored : (c : ℕ) (kind : Kind) (f g lent : List ℕ) (x y : Reading)
+    → length f ≡ length g → take 15 f ≡ take 15 g → drop 16 f ≡ drop 16 g → Reads c kind f lent x → Reads c kind g lent y
     → y ≡ x
-called-byte-16-ignored kind f g lent x y long front tail reads-f reads-g =
-    all-read kind g lent y reads-g ∙ byte-16-ignored kind f g lent long front tail ∙ sym (all-read kind f lent x reads-f)
+called-byte-16-ignored c kind f g lent x y long front tail reads-f reads-g =
+    all-read c kind g lent y reads-g ∙ byte-16-ignored c kind f g lent long front tail ∙ sym (all-read c kind f lent x reads-f)

@@ -9,6 +9,7 @@ pub mod LastTwoRead
 -- The same of the functions themselves, and that what they take a call to ensure is what the contract says
 pub mod CalledBack
 pub mod CalledWithin
+pub mod CalledCeiling
 pub mod Contracts
 -- The laws under them: a message by its schema, then the frame and the record
 mod Said

@@ -1,15 +1,15 @@
 -- For a user: what a reading hands out lies within the frame, on the definition that the contracts of `read_spans` and `read` name;
 -- `CalledWithin` has the functions.
 --
--- Promised, for every frame, every kind and any row numbers lent: each start and length that the reading hands out lies within the frame,
--- and an empty one is 0, 0: the byte fields of the record, the keys and values of its rows, header, body and attachment. A refused frame
--- hands out none.
+-- Promised, for every ceiling, every frame, every kind and any row numbers lent: each start and length that the reading hands out lies
+-- within the frame, and an empty one is 0, 0: the byte fields of the record, the keys and values of its rows, header, body and attachment.
+-- A refused frame hands out none.
 -- Not promised: which bytes are there, which `spans-stand` and the round trip say.
 -- Ruled out: a reader that gives the end of a byte field for its length, and one that leaves a start beside a length of 0.
 -- Assumes nothing.
-use Prim.Native.Nat.{ℕ, _+_, _-_, _<_, _≤_}
-use mathlib.Core.Path.{_≡_, refl, sym, ap, subst, _∙_}
-use mathlib.Core.Bool.{Bool, true, false, cond, _&&_}
+use Prim.Native.Nat.{ℕ, _+_, _-_, _≤_}
+use mathlib.Core.Path.{_≡_, refl, sym, ap, subst}
+use mathlib.Core.Bool.{Bool, true, false, not, cond, _&&_}
 use mathlib.Core.List.{List, []}
 use native.Mathlib.Omega.{arith}
 use borrow.Author.Tests.{eqb-true, eqb-false, ltb-false}
@@ -17,18 +17,17 @@ use lib.Dec.{eqb, ltb, leb}
 use lib.ListN.{length, take, drop, getD, length-take, length-drop}
 use lib.Seq.{length-take-le}
 use Rattle.laws.proofs.Booleans.{choose}
-use Rattle.fixed_header.specs.Header.{headerError, totalOf, headerSizeOf, idOf, versionOf}
+use Rattle.fixed_header.specs.Header.{ceilingOk, headerError, totalOf, headerSizeOf, idOf, versionOf}
 use Rattle.schema.specs.Schema.{width}
 use Rattle.decoder.specs.Rows.{rowNumbers, rowsIn, laidOut}
-use Rattle.decoder.specs.Fields.{State, Result, ok, refused, blank, partOf, readMessage}
+use Rattle.decoder.specs.Fields.{Result, ok, refused, blank, partOf, readMessage}
 use Rattle.decoder.proofs.RowLaws.{rowsIn-flat, laid-split}
 use Rattle.schema.specs.Kinds.{schemaOf}
 use Rattle.records.specs.Records.{recordOf, attachmentSizeOf}
-use Rattle.message.specs.Frames.{Reading, headerOf, bodyOf, lastBytes, kindFits, refusedUntouched, withAttachment, answered, readFrame}
+use Rattle.message.specs.Frames.{Reading, headerOf, bodyOf, kindFits, refusedUntouched, withAttachment, answered, readFrame}
 use Rattle.message.specs.Spans.{spanFrom, bytesAt, spansOf as located}
 use Rattle.schema.specs.declared.Kind.{Kind}
 use Rattle.schema.specs.declared.Kind.the-variants as kinds
-use Rattle.message.specs.declared.Answer.the-variants.{Read}
 use Rattle.message.proofs.SpansStand.{spans-stand}
 use Rattle.records.specs.Content.{rowCount}
 use Rattle.records.proofs.Made.{count-is}
@@ -36,7 +35,7 @@ use Rattle.thm_round_trip.specs.Refusals.{recordSpans}
 use Rattle.refusals.specs.Grounds.{Every}
 use Rattle.thm_round_trip.specs.Lies.{Lies, RowLies, SpansLie}
 use Rattle.thm_round_trip.specs.ReadWithin.{SpanLies, spansIn, countedIn, ReadWithin}
-use Rattle.decoder.proofs.ReadingSteps.{Steps, Came, message-came}
+use Rattle.decoder.proofs.ReadingSteps.{Came, message-came}
 use Rattle.thm_round_trip.proofs.SpansKept.{none-lies, steps-spans, steps-rows}
 
 -- what lies within the frame names as many bytes as its length says
@@ -129,26 +128,28 @@ module _ (f : List ℕ) where
         (λ e. none 15 (laidOut [] lent))
     of-result (refused code) steps = none code (laidOut [] lent)
 
-    record-within : RecordLies (readFrame kind f lent)
-    unfolding readFrame
-    record-within =
-        choose RecordLies (ltb (length lent) rowNumbers) _ _ (λ e. none 16 lent)
-        (λ r. choose RecordLies (ltb (length f) 16) _ _ (λ e. none 9 lent)
-        (λ s. choose RecordLies (eqb (headerError (take 16 f)) 0) _ _
-        (λ g. choose RecordLies (eqb (length f) (totalOf f) && kindFits kind (getD f 2 0) (getD f 3 0)) _ _
-        (λ e. of-result (readMessage f (schemaOf kind) 16 (headerOf kind f))
-        (message-came f (schemaOf kind) 16 (headerOf kind f) (header-within kind (ltb-false (length f) 16 s))))
-        (λ e. none 9 lent))
-        (λ e. none (headerError (take 16 f)) lent)))
+module _ (c : ℕ) (f : List ℕ) (kind : Kind) (lent : List ℕ) where
+  record-within : RecordLies f (readFrame c kind f lent)
+  unfolding readFrame
+  record-within =
+      choose (RecordLies f) (not (ceilingOk c)) _ _ (λ e. none f 41 lent)
+      (λ i. choose (RecordLies f) (ltb (length lent) rowNumbers) _ _ (λ e. none f 16 lent)
+      (λ r. choose (RecordLies f) (ltb (length f) 16) _ _ (λ e. none f 9 lent)
+      (λ s. choose (RecordLies f) (eqb (headerError c (take 16 f)) 0) _ _
+      (λ g. choose (RecordLies f) (eqb (length f) (totalOf f) && kindFits kind (getD f 2 0) (getD f 3 0)) _ _
+      (λ e. of-result f kind lent (readMessage f (schemaOf kind) 16 (headerOf kind f))
+      (message-came f (schemaOf kind) 16 (headerOf kind f) (header-within f kind (ltb-false (length f) 16 s))))
+      (λ e. none f 9 lent))
+      (λ e. none f (headerError c (take 16 f)) lent))))
 
-    pub read-within : ReadWithin f (located (readFrame kind f lent) (length f)) (readFrame kind f lent .rows)
-    read-within =
-        let x = readFrame kind f lent in
-        let stands = spans-stand f kind lent in
-        record {
-          fields = record-within .fields;
-          rows = record-within .rows;
-          header = stands-lies f (x .header) 16 (stands .header-stands);
-          body = stands-lies f (x .body) (length f - length (x .body)) (stands .body-stands);
-          attachment = stands-lies f (x .attachment) (length f - length (x .attachment)) (stands .attachment-stands);
-        }
+  pub read-within : ReadWithin f (located (readFrame c kind f lent) (length f)) (readFrame c kind f lent .rows)
+  read-within =
+      let x = readFrame c kind f lent in
+      let stands = spans-stand c f kind lent in
+      record {
+        fields = record-within .fields;
+        rows = record-within .rows;
+        header = stands-lies f (x .header) 16 (stands .header-stands);
+        body = stands-lies f (x .body) (length f - length (x .body)) (stands .body-stands);
+        attachment = stands-lies f (x .attachment) (length f - length (x .attachment)) (stands .attachment-stands);
+      }

@@ -1,20 +1,21 @@
 -- For a user: nothing is lost with refusal 20.
 --
 -- Document 02: "A reader of our code asked how a header message can pass 65,535 when 19 has already held the frame to 65,536. Show that it
--- can't, for all inputs". Promised, for every record, any source bytes, row numbers, body and output:
+-- can't, for all inputs". Promised, for every ceiling and record, any source bytes, row numbers, body and output:
 --   `over-every-ceiling`    a message over 65,535 bytes makes a frame over every ceiling of at most 65,536.
 --   `no-twenty`             under any such ceiling the tests for 19 and for 20, whatever comes after them, give what that for 19 gives.
 --   `without-twenty`        with 20's ground between 19 and 27 the answer and the whole output are what they are without it.
 --   `with-twenty-exactly`   a call of `write`, by its contract, gives each number exactly on its ground in the list with 20, too: no call
 --                           tells the two lists apart.
---   `message-fits`          of a frame that `write` wrote, by its contract: the message has 65,520 bytes at most, and bytes 9-10 are its
---                           size, or 0 in a stream frame.
+--   `message-fits`          of a frame that `write` wrote, by its contract: the message and the 16 bytes are at most the ceiling, so the
+--                           message has 65,520 bytes at most, and bytes 9-10 are its size, or 0 in a stream frame.
 -- Not promised: that no other entry gives 20, which `never-twenty` does (crate `thm_numbers`).
--- Ruled out: a writer that refuses a message of 65,520 bytes for its size, one that writes a message of 65,521 bytes, and one whose bytes
--- 9-10 hold only the low bits of the message's size.
+-- Ruled out: a writer that under 65,536 refuses a message of 65,520 bytes for its size, one that writes a message of 65,521 bytes, and one
+-- whose bytes 9-10 hold only the low bits of the message's size.
 -- Assumes nothing.
 use Prim.Native.Nat.{ℕ, _+_, _*_, _<_, _≤_}
 use mathlib.Core.Path.{_≡_, refl, sym, ap, subst, _∙_}
+use mathlib.Core.Logic.{_⊎_}
 use mathlib.Core.Bool.{Bool, true, false, cond}
 use mathlib.Core.List.{List, [], _∷_, _++_, append-assoc}
 use native.Mathlib.Omega.{arith}
@@ -22,9 +23,11 @@ use borrow.Author.Tests.{leb-true, leb-false}
 use lib.Dec.{eqb, leb}
 use lib.ListN.{length, take, getD}
 use Rattle.laws.specs.Chains as chain
-use Rattle.fixed_header.specs.Header.{maxFrame}
+use Rattle.fixed_header.specs.Header.{maxFrame, ceilingOk, WrongCeiling}
 use Rattle.fixed_header.specs.Put.{fixedHeader}
 use Rattle.fixed_header.specs.declared.FixedHeader.{FixedHeader}
+use Rattle.fixed_header.proofs.Codes.{ceiling-range}
+use Rattle.fixed_header.proofs.Ceilings.{ceiling-tested}
 use Rattle.schema.specs.declared.Kind.{Kind}
 use Rattle.schema.specs.declared.Kind.the-variants as kinds
 use Rattle.records.specs.declared.Record.{Record}
@@ -39,7 +42,7 @@ use Rattle.refusals.proofs.Order.{Outcome, Numbered, end, unless, unless-error,
 use Rattle.thm_round_trip.specs.Calls.{Writes}
 use Rattle.thm_round_trip.specs.MessageFits.{sizeSaid, MessageFits}
 use Rattle.thm_round_trip.specs.Refusals.{contentGrounds, encodedSays}
-use Rattle.thm_round_trip.proofs.Accepted.{write-accepted, done}
+use Rattle.thm_round_trip.proofs.Accepted.{framed}
 use Rattle.thm_round_trip.proofs.CalledBack.{all-written}
 use Rattle.thm_round_trip.proofs.Exactly.{content-outcome}
 use Rattle.thm_round_trip.proofs.FrameBack.{frame-length}
@@ -49,38 +52,40 @@ use Rattle.thm_round_trip.proofs.FrameBack.{frame-length}
 abbrev pub maxHeader : ℕ
 maxHeader = 65535
 
--- "Writer 18's first three grounds, 17, 18's others, 15, 19, 20, 27."
-abbrev pub groundsWithTwenty : Record → (source numbers body : List ℕ) → (room : ℕ) → List Ground
-groundsWithTwenty r source numbers body room =
-    contentGrounds r source numbers body
-    ++ ground 19 (maxFrame < length (frameOf r source numbers body))
+-- "Writer 18's first three grounds, 17, 18's others, 15, 19, 20, 27." P11: "41 ceiling outside the range, before all others"
+abbrev pub groundsWithTwenty : (c : ℕ) → Record → (source numbers body : List ℕ) → (room : ℕ) → List Ground
+groundsWithTwenty c r source numbers body room =
+    ground 41 (WrongCeiling c)
+    ∷ contentGrounds r source numbers body
+    ++ ground 19 (c < length (frameOf r source numbers body))
     ∷ ground 20 (maxHeader < length (messageOf r source numbers))
     ∷ ground 27 (room < length (frameOf r source numbers body))
     ∷ []
 
-abbrev pub entryWithTwenty : Record → (source numbers body output : List ℕ) → Entry Writing
-entryWithTwenty r source numbers body output =
+abbrev pub entryWithTwenty : (c : ℕ) → Record → (source numbers body output : List ℕ) → Entry Writing
+entryWithTwenty c r source numbers body output =
     record {
-      grounds = groundsWithTwenty r source numbers body (length output);
+      grounds = groundsWithTwenty c r source numbers body (length output);
       says = λ w. encodedSays (w .answer);
       refusal = λ n. refusedWith n output;
       work = wrote (frameOf r source numbers body) output;
     }
 
 -- the same as tests
-abbrev pub errorWithTwenty : Record → (source numbers body : List ℕ) → (room : ℕ) → ℕ
-errorWithTwenty r source numbers body room =
-    chain.unless (eqb (contentError (kindOf r) (slotsOf r) (rowCount r) source numbers (length body)) 0)
+abbrev pub errorWithTwenty : (c : ℕ) → Record → (source numbers body : List ℕ) → (room : ℕ) → ℕ
+errorWithTwenty c r source numbers body room =
+    chain.unless (ceilingOk c) 41
+    (chain.unless (eqb (contentError (kindOf r) (slotsOf r) (rowCount r) source numbers (length body)) 0)
     (contentError (kindOf r) (slotsOf r) (rowCount r) source numbers (length body))
-    (chain.unless (leb (length (frameOf r source numbers body)) maxFrame) 19
+    (chain.unless (leb (length (frameOf r source numbers body)) c) 19
     (chain.unless (leb (length (messageOf r source numbers)) maxHeader) 20
-    (chain.unless (leb (length (frameOf r source numbers body)) room) 27 0)))
+    (chain.unless (leb (length (frameOf r source numbers body)) room) 27 0))))
 
-abbrev pub writtenWithTwenty : Record → (source numbers body output : List ℕ) → Writing
-writtenWithTwenty r source numbers body output =
-    cond (eqb (errorWithTwenty r source numbers body (length output)) 0)
+abbrev pub writtenWithTwenty : (c : ℕ) → Record → (source numbers body output : List ℕ) → Writing
+writtenWithTwenty c r source numbers body output =
+    cond (eqb (errorWithTwenty c r source numbers body (length output)) 0)
     (wrote (frameOf r source numbers body) output)
-    (refusedWith (errorWithTwenty r source numbers body (length output)) output)
+    (refusedWith (errorWithTwenty c r source numbers body (length output)) output)
 
 -- ---- the message and the frame around it
 module _ (r : Record) (source numbers body : List ℕ) where
@@ -111,36 +116,48 @@ module _ (r : Record) (source numbers body : List ℕ) where
           let under = leb-true (length frame) ceiling e in
           absurd (omega (arith, over-every-ceiling ceiling within (leb-false (length message) maxHeader f)))
 
-  same-error : (room : ℕ) → errorWithTwenty r source numbers body room ≡ writeError r source numbers body room
-  unfolding writeError sizeError
-  same-error room = rw (no-twenty maxFrame (chain.unless (leb (length frame) room) 27 0) (omega arith))
+-- ---- the writer with 20 and the one without
+-- what comes after a test counts only where it passes
+after : (ok : Bool) (code : ℕ) {a b : ℕ} → (ok ≡ true → a ≡ b) → chain.unless ok code a ≡ chain.unless ok code b
+after true code e = e refl
+after false code e = refl
 
-  pub without-twenty : (output : List ℕ) → writtenWithTwenty r source numbers body output ≡ written r source numbers body output
+module _ (c : ℕ) (r : Record) (source numbers body : List ℕ) where
+  same-error : (room : ℕ) → errorWithTwenty c r source numbers body room ≡ writeError c r source numbers body room
+  unfolding writeError sizeError
+  same-error room =
+      let output-short = chain.unless (leb (length (frameOf r source numbers body)) room) 27 0 in
+      after (ceilingOk c) 41 (λ ok. rw (no-twenty r source numbers body c output-short (ceiling-range c ok .1)))
+
+  pub without-twenty : (output : List ℕ) → writtenWithTwenty c r source numbers body output ≡ written c r source numbers body output
   without-twenty output = rw (same-error (length output))
 
   -- ---- exactly on the grounds with 20
-  outcome-with-twenty : (room : ℕ) → Outcome (groundsWithTwenty r source numbers body room) (λ n. n) 0
-      (errorWithTwenty r source numbers body room)
+  outcome-with-twenty : (room : ℕ) → Outcome (groundsWithTwenty c r source numbers body room) (λ n. n) 0
+      (errorWithTwenty c r source numbers body room)
   outcome-with-twenty room =
-      unless-error (contentGrounds r source numbers body)
+      let total = length (frameOf r source numbers body) in
+      unless (ceiling-tested c)
+      (unless-error (contentGrounds r source numbers body)
       (contentError (kindOf r) (slotsOf r) (rowCount r) source numbers (length body)) (search arith depth 20)
       (content-outcome r source numbers body)
-      (unless (at-most (length frame) maxFrame)
-      (unless (at-most (length message) maxHeader)
-      (unless (at-most (length frame) room)
-      end)))
+      (unless (at-most total c)
+      (unless (at-most (length (messageOf r source numbers)) maxHeader)
+      (unless (at-most total room)
+      end))))
 
-  pub numbered : (room : ℕ) → Numbered (groundsWithTwenty r source numbers body room)
+  pub numbered : (room : ℕ) → Numbered (groundsWithTwenty c r source numbers body room)
   numbered room = search arith depth 20
 
-  pub with-twenty-exactly : (output : List ℕ) (w : Writing) → Writes r source numbers body output w
-      → Exactly (entryWithTwenty r source numbers body output) w
+  pub with-twenty-exactly : (output : List ℕ) (w : Writing) → Writes c r source numbers body output w
+      → Exactly (entryWithTwenty c r source numbers body output) w
   with-twenty-exactly output w writes =
       let room = length output in
-      subst (Exactly (entryWithTwenty r source numbers body output))
-      (without-twenty output ∙ sym (all-written r source numbers body output w writes))
-      (exactly (entryWithTwenty r source numbers body output) (writtenWithTwenty r source numbers body output) (λ none. refl) (λ n f. refl)
-      (unless-error (groundsWithTwenty r source numbers body room) (errorWithTwenty r source numbers body room) (numbered room)
+      subst (Exactly (entryWithTwenty c r source numbers body output))
+      (without-twenty output ∙ sym (all-written c r source numbers body output w writes))
+      (exactly (entryWithTwenty c r source numbers body output) (writtenWithTwenty c r source numbers body output) (λ none. refl)
+      (λ n f. refl)
+      (unless-error (groundsWithTwenty c r source numbers body room) (errorWithTwenty c r source numbers body room) (numbered room)
       (outcome-with-twenty room) end))
 
 -- ---- bytes 9-10
@@ -165,19 +182,21 @@ size-held : (h : FixedHeader) (rest : List ℕ) → h .«header_size» < 65536
 unfolding fixedHeader
 size-held h rest small = omega arith
 
-pub message-fits : (r : Record) (source numbers body output : List ℕ) (w : Writing) → Writes r source numbers body output w
-    → (size : ℕ) → w .answer ≡ Frame size → MessageFits (kindOf r) (messageOf r source numbers) (take size (w .output))
+pub message-fits : (c : ℕ) (r : Record) (source numbers body output : List ℕ) (w : Writing) → Writes c r source numbers body output w
+    → (size : ℕ) → w .answer ≡ Frame size → MessageFits c (kindOf r) (messageOf r source numbers) (take size (w .output))
 unfolding frameOf
-message-fits r source numbers body output w writes size is =
+message-fits c r source numbers body output w writes size is =
     let m = messageOf r source numbers in
     let h = headerFor (kindOf r) (recordId r) (recordVersion r) m body in
-    let d = done (frameOf r source numbers body) output (writeError r source numbers body (length output)) size (sym (writes .0) ∙ is) in
-    let small = write-accepted r source numbers body (length output) (d .no-error) .small in
+    let d = framed c r source numbers body output size (sym (writes .0) ∙ is) in
+    let small = d .accepted .small in
+    let most = d .accepted .ceiling .1 in
     let long = frame-size r source numbers body in
     let said = size-said (kindOf r) (length m) in
     let frame-is : take size (w .output) ≡ fixedHeader h ++ (m ++ body) =
     ap (take size) (writes .1) ∙ d .frame-is ∙ append-assoc (fixedHeader h) m body in
     record {
+      under-ceiling = omega (arith, long);
       at-most = omega (arith, long);
       bytes-hold =
           ap (λ (f : List ℕ). getD f 8 0 * 256 + getD f 9 0) frame-is

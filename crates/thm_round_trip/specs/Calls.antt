@@ -15,14 +15,14 @@ use Rattle.records.specs.declared.Record.{Record}
 use Rattle.writer.specs.Writing.{Writing, written}
 use Rattle.thm_round_trip.specs.ReadsBack.{readingOf, ReadsBack}
 
--- ---- the `ensures` of each function, of what a call of it gave; that of `read` is `Reads` (crate `thm_stream`)
+-- ---- the `ensures` of each function, of what a call of it under the ceiling c gave; that of `read` is `Reads` (crate `thm_stream`)
 
-abbrev pub Writes : Record → (source numbers body output : List ℕ) → Writing → Type 0
-Writes r source numbers body output w =
-    (w .answer ≡ written r source numbers body output .answer) × (w .output ≡ written r source numbers body output .output)
+abbrev pub Writes : (c : ℕ) → Record → (source numbers body output : List ℕ) → Writing → Type 0
+Writes c r source numbers body output w =
+    (w .answer ≡ written c r source numbers body output .answer) × (w .output ≡ written c r source numbers body output .output)
 
-abbrev pub Locates : Kind → (frame lent : List ℕ) → Located → (rows : List ℕ) → Type 0
-Locates kind frame lent x rows = (x ≡ spansOf (readFrame kind frame lent) (length frame)) × (rows ≡ readFrame kind frame lent .rows)
+abbrev pub Locates : (c : ℕ) → Kind → (frame lent : List ℕ) → Located → (rows : List ℕ) → Type 0
+Locates c kind frame lent x rows = (x ≡ spansOf (readFrame c kind frame lent) (length frame)) × (rows ≡ readFrame c kind frame lent .rows)
 
 -- A record that a program passes to `write`: it has a machine value, as its declared types lay it out. Every record that a program can make
 -- has one; a number past its 32 bits, or a version past its 8, has none.
@@ -30,7 +30,7 @@ pub record Held (r : Record) : Type 0 where
   pub value : List Val
   pub is : Is declared.the-row r value
 
--- `write` left a frame of that size in `output`, and `read` gave x of it
-pub record CalledBack (r : Record) (source numbers body output lent : List ℕ) (size : ℕ) (x : Reading) : Type 0 where
-  pub reading-is : x ≡ readingOf r (take size output) lent
-  pub reads-back : ReadsBack r source numbers body (take size output) lent
+-- `write` left a frame of that size in `output`, and `read` under the ceiling c gave x of it
+pub record CalledBack (c : ℕ) (r : Record) (source numbers body output lent : List ℕ) (size : ℕ) (x : Reading) : Type 0 where
+  pub reading-is : x ≡ readingOf c r (take size output) lent
+  pub reads-back : ReadsBack c r source numbers body (take size output) lent

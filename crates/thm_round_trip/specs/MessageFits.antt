@@ -16,7 +16,10 @@ sizeSaid kinds.Data size = 0
 sizeSaid kinds.Feedback size = 0
 sizeSaid kinds.Close size = 0
 
-pub record MessageFits (kind : Kind) (message frame : List ℕ) : Type 0 where
+-- of a frame that was written under the ceiling c
+pub record MessageFits (c : ℕ) (kind : Kind) (message frame : List ℕ) : Type 0 where
+  -- the message and the 16 bytes are at most the ceiling
+  pub under-ceiling : 16 + length message ≤ c
   -- 65,536 less the 16 bytes
   pub at-most : length message ≤ 65520
   -- "Numbers are big-endian": the frame's ninth byte and its tenth, which are there, since a written frame has 16 or more (`frame-length`)

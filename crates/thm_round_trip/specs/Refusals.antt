@@ -1,11 +1,11 @@
--- The grounds on which the writer refuses, as propositions in the words of document 01's table
+-- The grounds on which the writer refuses, as propositions in the words of document 01's table and of document 02
 use Prim.Native.Nat.{ℕ, _+_, _*_, _<_}
 use mathlib.Core.Path.{_≡_}
 use mathlib.Core.Logic.{_⊎_}
 use mathlib.Core.Bool.{Bool, true, false}
 use mathlib.Core.List.{List, [], _∷_, _++_}
 use lib.ListN.{length}
-use Rattle.fixed_header.specs.Header.{maxFrame}
+use Rattle.fixed_header.specs.Header.{WrongCeiling}
 use Rattle.decoder.specs.Rows.{Row}
 use Rattle.decoder.specs.Fields.{partOf}
 use Rattle.records.specs.Records.{attachmentSizeOf}
@@ -108,12 +108,14 @@ contentGrounds r source numbers body =
     ∷ ground 15 ((hasBody (kindOf r) ≡ false) × (0 < length body))
     ∷ []
 
--- "19, 20, 27." Document 02 took 20 out.
-abbrev pub writeGrounds : Record → (source numbers body : List ℕ) → (room : ℕ) → List Ground
-writeGrounds r source numbers body room =
-    contentGrounds r source numbers body
-    -- "frame over 65,536"; "output shorter than the frame"
-    ++ ground 19 (maxFrame < length (frameOf r source numbers body))
+-- "19, 20, 27." Document 02 took 20 out. P11: "41 ceiling outside the range, before all others"
+abbrev pub writeGrounds : (c : ℕ) → Record → (source numbers body : List ℕ) → (room : ℕ) → List Ground
+writeGrounds c r source numbers body room =
+    -- "41 ceiling outside the range, before all others"
+    ground 41 (WrongCeiling c)
+    ∷ contentGrounds r source numbers body
+    -- "frame over 65,536", of which P11: "1, 6 and 19 speak of the ceiling"; "output shorter than the frame"
+    ++ ground 19 (c < length (frameOf r source numbers body))
     ∷ ground 27 (room < length (frameOf r source numbers body))
     ∷ []
 
@@ -123,10 +125,10 @@ abbrev pub encodedSays : Encoded → Verdict
 encodedSays (Frame size) = works
 encodedSays (Refused code) = refuses code
 
-abbrev pub writeEntry : Record → (source numbers body output : List ℕ) → Entry Writing
-writeEntry r source numbers body output =
+abbrev pub writeEntry : (c : ℕ) → Record → (source numbers body output : List ℕ) → Entry Writing
+writeEntry c r source numbers body output =
     record {
-      grounds = writeGrounds r source numbers body (length output);
+      grounds = writeGrounds c r source numbers body (length output);
       says = λ w. encodedSays (w .answer);
       refusal = λ n. refusedWith n output;
       work = wrote (frameOf r source numbers body) output;

@@ -30,24 +30,24 @@ use Rattle.thm_stream.specs.Trace.{Answers, Leaves, Finishes, Reads}
 
 -- what is lent, and what is in it afterwards
 module _ {M : Type 1} (𝓤 : URA M) (H : Heap 𝓤) (A : Atoms 𝓤) (mem : Memory → SProp 𝓤) (run : Routine → Fun 𝓤) (κ ι : Lft) where
-  pub deframe-ensures : (state : Deframer) (buffer piece : RefT (List ℕ)) (step : Step) (after : List ℕ)
-      → deframe.clauses 𝓤 H A mem run (κ, (ι, tt)) (state, (buffer, (piece, tt))) .ensures tt step
-      (atExit deframe.ended (κ, (ι, tt)) (state, (buffer, (piece, tt))) (tt, (after, (tt, tt))))
-      ≡ sep 𝓤 (fact 𝓤 (Answers state (now buffer) (now piece) (record { step = step; buffer = after })))
-      (fact 𝓤 (Leaves state (now buffer) (now piece) (record { step = step; buffer = after })))
-  deframe-ensures state buffer piece step after = refl
+  pub deframe-ensures : (state : Deframer) (buffer : RefT (List ℕ)) (ceiling : ℕ) (piece : RefT (List ℕ)) (step : Step) (after : List ℕ)
+      → deframe.clauses 𝓤 H A mem run (κ, (ι, tt)) (state, (buffer, (ceiling, (piece, tt)))) .ensures tt step
+      (atExit deframe.ended (κ, (ι, tt)) (state, (buffer, (ceiling, (piece, tt)))) (tt, (after, (tt, (tt, tt)))))
+      ≡ sep 𝓤 (fact 𝓤 (Answers ceiling state (now buffer) (now piece) (record { step = step; buffer = after })))
+      (fact 𝓤 (Leaves ceiling state (now buffer) (now piece) (record { step = step; buffer = after })))
+  deframe-ensures state buffer ceiling piece step after = refl
 
-  pub finish-ensures : (state : Deframer) (buffer : RefT (List ℕ)) (end : End)
-      → finish.clauses 𝓤 H A mem run (κ, tt) (state, (buffer, tt)) .ensures tt end
-      (atExit finish.ended (κ, tt) (state, (buffer, tt)) (tt, (tt, tt)))
-      ≡ fact 𝓤 (Finishes state (now buffer) end)
-  finish-ensures state buffer end = refl
+  pub finish-ensures : (state : Deframer) (buffer : RefT (List ℕ)) (ceiling : ℕ) (end : End)
+      → finish.clauses 𝓤 H A mem run (κ, tt) (state, (buffer, (ceiling, tt))) .ensures tt end
+      (atExit finish.ended (κ, tt) (state, (buffer, (ceiling, tt))) (tt, (tt, (tt, tt))))
+      ≡ fact 𝓤 (Finishes ceiling state (now buffer) end)
+  finish-ensures state buffer ceiling end = refl
 
-  pub read-ensures : (kind : Kind) (frame : RefT (List ℕ)) (rows : RefT (List ℕ)) (r : Reading) (after : List ℕ)
-      → read.clauses 𝓤 H A mem run (κ, (ι, tt)) (kind, (frame, (rows, tt))) .ensures tt r
-      (atExit read.ended (κ, (ι, tt)) (kind, (frame, (rows, tt))) (tt, (tt, (after, tt))))
-      ≡ fact 𝓤 (Reads kind (now frame) (now rows)
+  pub read-ensures : (kind : Kind) (frame : RefT (List ℕ)) (ceiling : ℕ) (rows : RefT (List ℕ)) (r : Reading) (after : List ℕ)
+      → read.clauses 𝓤 H A mem run (κ, (ι, tt)) (kind, (frame, (ceiling, (rows, tt)))) .ensures tt r
+      (atExit read.ended (κ, (ι, tt)) (kind, (frame, (ceiling, (rows, tt)))) (tt, (tt, (tt, (after, tt)))))
+      ≡ fact 𝓤 (Reads ceiling kind (now frame) (now rows)
       (record { answer = r .answer; header = now (r .header); body = now (r .body); attachment = now (r .attachment); rows = after })
-      × PartsStand (frame .ptr) (spansOf (readFrame kind (now frame) (now rows)) (length (now frame))) (r .header .ptr) (r .body .ptr)
-      (r .attachment .ptr))
-  read-ensures kind frame rows r after = refl
+      × PartsStand (frame .ptr) (spansOf (readFrame ceiling kind (now frame) (now rows)) (length (now frame))) (r .header .ptr)
+      (r .body .ptr) (r .attachment .ptr))
+  read-ensures kind frame ceiling rows r after = refl

@@ -89,17 +89,19 @@ small kinds.Close = refl
 
 -- the error of the sizes is that of the message, and where there is none the frame fits
 module _ (kind : Kind) (slots : List ℕ) (count : ℕ) (source numbers : List ℕ) (in-source : RowsIn count source numbers)
-    (within : spansWithin (length source) (schemaOf kind) 0 slots ≡ true) (body room : ℕ) {e : ℕ}
-    (is-e : e ≡ sizeError (16 + sizeBy (rowsIn count numbers) (schemaOf kind) 0 slots + body) room) where
-  pub of-message : e ≡ sizeError (16 + length (messageIn kind slots count source numbers) + body) room
+    (within : spansWithin (length source) (schemaOf kind) 0 slots ≡ true) (body room c : ℕ) {e : ℕ}
+    (is-e : e ≡ sizeError c (16 + sizeBy (rowsIn count numbers) (schemaOf kind) 0 slots + body) room) where
+  pub of-message : e ≡ sizeError c (16 + length (messageIn kind slots count source numbers) + body) room
   of-message =
-      is-e ∙ ap (λ (size : ℕ). sizeError (16 + size + body) room)
+      is-e ∙ ap (λ (size : ℕ). sizeError c (16 + size + body) room)
       (sym (sized-by source (rowsIn count numbers) slots (in-source .within) (schemaOf kind) 0 (small kind) within))
 
-  pub ready : e ≡ 0
+  pub ready : c ≤ maxFrame → e ≡ 0
       → (16 + length (messageIn kind slots count source numbers) + body ≤ maxFrame)
       × (16 + length (messageIn kind slots count source numbers) + body ≤ room)
-  ready h = no-error (16 + length (messageIn kind slots count source numbers) + body) room (sym of-message ∙ h)
+  ready small h =
+      let fits = no-error c (16 + length (messageIn kind slots count source numbers) + body) room (sym of-message ∙ h) in
+      (omega (arith, fits), fits .1)
 
 -- the byte fields of each kind
 module _ (size : ℕ) (slots : List ℕ) where

@@ -11,3 +11,5 @@ mod Refusals
 mod Slots
 -- Demand 1, of every public entry
 pub mod AsksNothing
+-- Document 02, P11: what the ceiling decides
+pub mod Under

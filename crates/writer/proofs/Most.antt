@@ -65,11 +65,11 @@ module _ (rows : List Row) (slots : List ℕ) where
             (omega arith),
       )
 
-  pub surely : (schema : Schema) (most body room : ℕ) → mostBy rows schema 0 slots ≤ most
-      → (16 + most + body ≤ maxFrame) × (16 + most + body ≤ room)
-      → 0 ≡ sizeError (16 + sizeBy rows schema 0 slots + body) room
+  pub surely : (schema : Schema) (most body room c : ℕ) → c ≤ maxFrame → mostBy rows schema 0 slots ≤ most
+      → (16 + most + body ≤ c) × (16 + most + body ≤ room)
+      → 0 ≡ sizeError c (16 + sizeBy rows schema 0 slots + body) room
   unfolding sizeError
-  surely schema most body room e h =
+  surely schema most body room c small e h =
       let size = sizeBy rows schema 0 slots in
       let k = most-by schema 0 (omega arith) in
-      rw (le-leb (16 + size + body) maxFrame (omega arith), le-leb (16 + size + body) room (omega arith))
+      rw (le-leb (16 + size + body) c (omega arith), le-leb (16 + size + body) room (omega arith))

@@ -7,6 +7,7 @@ use mathlib.Core.List.{List}
 use lib.ListN.{length, getD}
 use lib.Dec.{eqb}
 use Rattle.wire_write.proofs.ReadBack.{bits-back}
+use Rattle.fixed_header.specs.Header.{ceilingOk}
 use Rattle.schema.specs.Schema.{width}
 use Rattle.schema.specs.Kinds.{schemaOf}
 use Rattle.schema.specs.declared.Kind.{Kind}
@@ -50,12 +51,14 @@ module _ (id version : ℕ) (v : List ℕ) (rows : ℕ) (fits : (i : ℕ) → ge
   message-same kinds.Close source t =
       rw (bits-back (getD v 0 0) (fits 0), bits-back (getD v 1 0) (fits 1), bits-back (getD v 5 0) (fits 5))
 
-  pub from-slots : (kind : Kind) (source numbers body output : List ℕ)
-      → writtenOf kind id version v rows source numbers body output ≡ written (recordOf kind id version v rows) source numbers body output
-  from-slots kind source numbers body output =
+  pub from-slots : (c : ℕ) (kind : Kind) (source numbers body output : List ℕ)
+      → writtenOf c kind id version v rows source numbers body output
+      ≡ written c (recordOf kind id version v rows) source numbers body output
+  from-slots c kind source numbers body output =
       let r = recordOf kind id version v rows in
-      ap₂ (λ (e : ℕ) (m : List ℕ). cond (eqb e 0) (writtenWith kind id version m body output) (refusedWith e output))
+      ap₂ (λ (e : ℕ) (m : List ℕ). cond (not (ceilingOk c)) (refusedWith 41 output)
+      (cond (eqb e 0) (writtenWith c kind id version m body output) (refusedWith e output)))
       (sym (content-same kind source numbers (length body)))
       (sym (message-same kind source (rowsIn rows numbers)))
-      ∙ as-record r (sym (kind-is id version v rows kind)) (sym (id-is id version v rows kind)) (sym (version-is id version v rows kind))
+      ∙ as-record c r (sym (kind-is id version v rows kind)) (sym (id-is id version v rows kind)) (sym (version-is id version v rows kind))
       refl (sym (count-is id version v rows kind)) source numbers body output

@@ -2,11 +2,11 @@
 use Prim.Native.Nat.{ℕ, _+_, _*_, _≤_, _<_}
 use mathlib.Core.Path.{_≡_}
 use mathlib.Core.List.{List, [], _∷_, _++_}
-use mathlib.Core.Bool.{Bool, true, cond, _&&_}
+use mathlib.Core.Bool.{Bool, true, not, cond, _&&_}
 use lib.Dec.{eqb, ltb}
 use lib.ListN.{length, getD}
 use lib.Seq.{sets}
-use Rattle.fixed_header.specs.Header.{maxFrame}
+use Rattle.fixed_header.specs.Header.{maxFrame, ceilingOk}
 use Rattle.fixed_header.specs.Put.{fixedHeader}
 use Rattle.wire_write.specs.Writing.{putVarint, putBytes}
 use Rattle.schema.specs.Schema.{Integer, uint32, int32, Schema, done, number, bytes, map, message, width, requestMeta, responseMeta}
@@ -110,10 +110,6 @@ mostField = 1099511627776
 
 abbrev pub mostMessage : ℕ
 mostMessage = 140737488355328
-
--- n is the total, or both are over 65,536
-abbrev pub SizeOf : (total n : ℕ) → Type 0
-SizeOf total n = (total ≤ maxFrame → n ≡ total) × (maxFrame < total → maxFrame < n)
 
 -- ---- a field of the slots
 abbrev pub numberAt : (slots : List ℕ) → (n i : ℕ) → List ℕ
@@ -257,15 +253,17 @@ abbrev pub frameWith : Kind → (id version : ℕ) → (m body : List ℕ) → L
 frameWith kind id version m body = fixedHeader (headerFor kind id version m body) ++ m ++ body
 
 -- 19, 27, or the frame
-abbrev pub writtenWith : Kind → (id version : ℕ) → (m body output : List ℕ) → Writing
-writtenWith kind id version m body output =
-    cond (eqb (sizeError (16 + length m + length body) (length output)) 0)
+abbrev pub writtenWith : (c : ℕ) → Kind → (id version : ℕ) → (m body output : List ℕ) → Writing
+writtenWith c kind id version m body output =
+    cond (eqb (sizeError c (16 + length m + length body) (length output)) 0)
     (wrote (frameWith kind id version m body) output)
-    (refusedWith (sizeError (16 + length m + length body) (length output)) output)
+    (refusedWith (sizeError c (16 + length m + length body) (length output)) output)
 
 -- the grounds before these, and then that: what `written` says of a record with this kind, this id, this version, these slots and rows
-abbrev pub writtenOf : Kind → (id version : ℕ) → (slots : List ℕ) → (count : ℕ) → (source numbers body output : List ℕ) → Writing
-writtenOf kind id version slots count source numbers body output =
-    cond (eqb (contentError kind slots count source numbers (length body)) 0)
-    (writtenWith kind id version (messageIn kind slots count source numbers) body output)
-    (refusedWith (contentError kind slots count source numbers (length body)) output)
+abbrev pub writtenOf : (c : ℕ) → Kind → (id version : ℕ) → (slots : List ℕ) → (count : ℕ) → (source numbers body output : List ℕ)
+    → Writing
+writtenOf c kind id version slots count source numbers body output =
+    cond (not (ceilingOk c)) (refusedWith 41 output)
+    (cond (eqb (contentError kind slots count source numbers (length body)) 0)
+    (writtenWith c kind id version (messageIn kind slots count source numbers) body output)
+    (refusedWith (contentError kind slots count source numbers (length body)) output))

@@ -5,7 +5,7 @@ use mathlib.Core.List.{List, _++_}
 use lib.ListN.{length, drop}
 use lib.Dec.{leb, eqb}
 use Rattle.laws.specs.Chains.{unless}
-use Rattle.fixed_header.specs.Header.{maxFrame}
+use Rattle.fixed_header.specs.Header.{ceilingOk}
 use Rattle.fixed_header.specs.Put.{fixedHeader}
 use Rattle.fixed_header.specs.declared.FixedHeader.{FixedHeader}
 use Rattle.fixed_header.specs.declared.FrameType.{FrameType}
@@ -67,17 +67,19 @@ frameOf r source numbers body =
     ++ messageOf r source numbers ++ body
 
 -- ---- the refusals
--- "frame over 65,536", "output shorter than the frame": by the sizes of frame and output
-unfoldable pub sizeError : (total room : ℕ) → ℕ
-sizeError total room = unless (leb total maxFrame) 19 (unless (leb total room) 27 0)
+-- "frame over 65,536", "output shorter than the frame": by the sizes of frame and output. Document 02, P11: "1, 6 and 19 speak of the
+-- ceiling"
+unfoldable pub sizeError : (c total room : ℕ) → ℕ
+sizeError c total room = unless (leb total c) 19 (unless (leb total room) 27 0)
 
 -- "Writer 18's first three grounds, 17, 18's others, 15, 19, 20, 27." Document 02 took 20 out. Those up to 15 are in `writer_checks`. The
--- first that holds, 0 for none
-unfoldable pub writeError : Record → (source numbers body : List ℕ) → (room : ℕ) → ℕ
-writeError r source numbers body room =
-    unless (eqb (contentError (kindOf r) (slotsOf r) (rowCount r) source numbers (length body)) 0)
+-- first that holds, 0 for none. P11: "41 ceiling outside the range, before all others"
+unfoldable pub writeError : (c : ℕ) → Record → (source numbers body : List ℕ) → (room : ℕ) → ℕ
+writeError c r source numbers body room =
+    unless (ceilingOk c) 41
+    (unless (eqb (contentError (kindOf r) (slotsOf r) (rowCount r) source numbers (length body)) 0)
     (contentError (kindOf r) (slotsOf r) (rowCount r) source numbers (length body))
-    (sizeError (length (frameOf r source numbers body)) room)
+    (sizeError c (length (frameOf r source numbers body)) room))
 
 -- ---- writing
 pub record Writing : Type 0 where
@@ -94,11 +96,11 @@ wrote frame output = record { answer = Frame (length frame); output = frame ++ d
 
 -- "The writer takes a record, the bytes its starts refer to, its rows and a body." "A number is given exactly when its ground holds and
 -- none before it in the order does; with no ground the entry does its work."
-abbrev pub written : Record → (source numbers body output : List ℕ) → Writing
-written r source numbers body output =
-    cond (eqb (writeError r source numbers body (length output)) 0)
+abbrev pub written : (c : ℕ) → Record → (source numbers body output : List ℕ) → Writing
+written c r source numbers body output =
+    cond (eqb (writeError c r source numbers body (length output)) 0)
     (wrote (frameOf r source numbers body) output)
-    (refusedWith (writeError r source numbers body (length output)) output)
+    (refusedWith (writeError c r source numbers body (length output)) output)
 
 -- "a refused write counts 0 bytes": what each answer says, as the paper's numbers
 unfoldable pub countOf : Encoded → ℕ

@@ -3,7 +3,6 @@ use crate::entry::MapEntry;
 use crate::entry::entry_at;
 use crate::sizes::message_size;
 use fixed_header::HEADER;
-use fixed_header::MAX_FRAME;
 use refusals::FRAME_OVER;
 use refusals::OUTPUT_SHORT;
 use schema::Kind;
@@ -12,9 +11,10 @@ ghost use Prim.Native.Nat.{_+_, _≤_};
 ghost use mathlib.Core.List.{List};
 ghost use Rattle.decoder.specs.Rows.{Row, rowsIn};
 ghost use Rattle.schema.specs.Kinds.{schemaOf};
+ghost use Rattle.fixed_header.specs.Header.{maxFrame};
 ghost use Rattle.writer.specs.Writing.{sizeError};
 ghost use Rattle.writer.specs.Straight.{Lent, mostRow, mostField, mostMessage};
-ghost use Rattle.writer.specs.Straight.{rowOf, rowsSum, rowMost, sizeBy, mostBy, SizeOf};
+ghost use Rattle.writer.specs.Straight.{rowOf, rowsSum, rowMost, sizeBy, mostBy};
 
 fn row_most(e: MapEntry) -> usize
     ensures { λ r. ⌜ (r ≡ rowMost (rowOf e)) × (r ≤ mostRow) ⌝ }
@@ -62,24 +62,17 @@ fn wide(v: u32) -> usize
     v as usize
 }
 
-// The size of a frame; of one that is over 65,536, some size that is over it. Such a sum could pass what a number holds.
-fn frame_size(size: usize, body: usize) -> usize
+// 19: the frame; 27: the output. 0 for none. A body over the ceiling is told first: with it the sum could pass what a number holds.
+fn size_error(size: usize, body: usize, room: usize, ceiling: u32) -> u32
     requires { ⌜ size ≤ mostMessage ⌝ }
-    ensures { λ r. ⌜ SizeOf (16 + size + body) r ⌝ }
+    ensures { λ r. ⌜ r ≡ sizeError ceiling (16 + size + body) room ⌝ }
 {
-    if body > MAX_FRAME {
-        return MAX_FRAME + 1;
+    let most = ceiling as usize;
+    if body > most {
+        return FRAME_OVER;
     }
-    HEADER + size + body
-}
-
-// 19: the frame; 27: the output. 0 for none.
-fn size_error(size: usize, body: usize, room: usize) -> u32
-    requires { ⌜ size ≤ mostMessage ⌝ }
-    ensures { λ r. ⌜ r ≡ sizeError (16 + size + body) room ⌝ }
-{
-    let total = frame_size(size, body);
-    if total > MAX_FRAME {
+    let total = HEADER + size + body;
+    if total > most {
         return FRAME_OVER;
     }
     if room < total {
@@ -96,12 +89,14 @@ pub(crate) fn message_error(
     rows: &[u32],
     body: usize,
     room: usize,
+    ceiling: u32,
 ) -> u32
-    requires { ⌜ Lent count (now rows) ⌝ }
-    ensures { λ r. ⌜ r ≡ sizeError (16 + sizeBy (rowsIn count (now (rows .entry))) (schemaOf kind) 0 (now (n .entry)) + body) room ⌝ }
+    requires { ⌜ Lent count (now rows) × (ceiling ≤ maxFrame) ⌝ }
+    ensures { λ r. ⌜ r ≡ sizeError ceiling
+        (16 + sizeBy (rowsIn count (now (rows .entry))) (schemaOf kind) 0 (now (n .entry)) + body) room ⌝ }
 {
-    if size_error(message_most(kind, n, count, rows), body, room) == 0 {
+    if size_error(message_most(kind, n, count, rows), body, room, ceiling) == 0 {
         return 0;
     }
-    size_error(message_size(kind, n, count, rows), body, room)
+    size_error(message_size(kind, n, count, rows), body, room, ceiling)
 }

@@ -5,7 +5,9 @@ use crate::fields::put_message;
 use fixed_header::FixedHeader;
 use fixed_header::FrameType;
 use fixed_header::HEADER;
+use fixed_header::ceiling_ok;
 use fixed_header::put_header;
+use refusals::BAD_CEILING;
 use schema::Kind;
 use writer_checks::content_error;
 ghost use mathlib.Core.Path.{_≡_};
@@ -97,15 +99,18 @@ fn write_frame(
     rows: &[u32],
     body: &[u8],
     out: &mut [u8],
+    ceiling: u32,
 ) -> Encoded
     requires { ⌜ Lent count (now rows) × RowsIn count (now source) (now rows)
-        × (spansWithin (length (now source)) (schemaOf kind) 0 (now n) ≡ true) ⌝ }
-    ensures { λ r. ⌜ (r ≡ writtenWith kind id version (messageIn kind (now (n .entry)) count (now (source .entry)) (now (rows .entry)))
-        (now (body .entry)) (now (out .entry)) .answer)
-        × (now (out .exit) ≡ writtenWith kind id version (messageIn kind (now (n .entry)) count (now (source .entry)) (now (rows .entry)))
-        (now (body .entry)) (now (out .entry)) .output) ⌝ }
+        × (spansWithin (length (now source)) (schemaOf kind) 0 (now n) ≡ true) × (ceiling ≤ maxFrame) ⌝ }
+    ensures { λ r. ⌜ (r ≡ writtenWith ceiling kind id version
+        (messageIn kind (now (n .entry)) count (now (source .entry)) (now (rows .entry))) (now (body .entry))
+        (now (out .entry)) .answer)
+        × (now (out .exit) ≡ writtenWith ceiling kind id version
+        (messageIn kind (now (n .entry)) count (now (source .entry)) (now (rows .entry))) (now (body .entry))
+        (now (out .entry)) .output) ⌝ }
 {
-    let error = message_error(kind, n, count, rows, body.len(), out.len());
+    let error = message_error(kind, n, count, rows, body.len(), out.len(), ceiling);
     if error != 0 {
         return Encoded::Refused(error);
     }
@@ -123,12 +128,16 @@ pub(crate) fn write_values(
     rows: &[u32],
     body: &[u8],
     out: &mut [u8],
+    ceiling: u32,
 ) -> Encoded
-    ensures { λ r. ⌜ (r ≡ writtenOf kind id version (now (n .entry)) count (now (source .entry)) (now (rows .entry)) (now (body .entry))
-        (now (out .entry)) .answer)
-        × (now (out .exit) ≡ writtenOf kind id version (now (n .entry)) count (now (source .entry)) (now (rows .entry)) (now (body .entry))
-        (now (out .entry)) .output) ⌝ }
+    ensures { λ r. ⌜ (r ≡ writtenOf ceiling kind id version (now (n .entry)) count (now (source .entry)) (now (rows .entry))
+        (now (body .entry)) (now (out .entry)) .answer)
+        × (now (out .exit) ≡ writtenOf ceiling kind id version (now (n .entry)) count (now (source .entry)) (now (rows .entry))
+        (now (body .entry)) (now (out .entry)) .output) ⌝ }
 {
+    if !ceiling_ok(ceiling) {
+        return Encoded::Refused(BAD_CEILING);
+    }
     let ground = content_error(kind, n, count, source, rows, body.len());
     if ground != 0 {
         return Encoded::Refused(ground);
@@ -143,5 +152,6 @@ pub(crate) fn write_values(
         rows,
         body,
         out,
+        ceiling,
     )
 }

@@ -22,10 +22,20 @@ pub enum Encoded {
 }
 
 // Writes the frame of a record to the start of the output. `source` is the bytes that the starts of the record and of its rows
-// count from, and `rows` has four numbers for each row.
-pub fn write(record: Record, source: &[u8], rows: &[u32], body: &[u8], out: &mut [u8]) -> Encoded
-    ensures { λ r. ⌜ (r ≡ written «record» (now (source .entry)) (now (rows .entry)) (now (body .entry)) (now (out .entry)) .answer)
-        × (now (out .exit) ≡ written «record» (now (source .entry)) (now (rows .entry)) (now (body .entry)) (now (out .entry)) .output) ⌝ }
+// count from, and `rows` has four numbers for each row. No frame is longer than the ceiling, and a ceiling that is not 16 to 65,536
+// is refused.
+pub fn write(
+    record: Record,
+    source: &[u8],
+    rows: &[u32],
+    body: &[u8],
+    out: &mut [u8],
+    ceiling: u32,
+) -> Encoded
+    ensures { λ r. ⌜ (r ≡ written ceiling «record» (now (source .entry)) (now (rows .entry)) (now (body .entry))
+        (now (out .entry)) .answer)
+        × (now (out .exit) ≡ written ceiling «record» (now (source .entry)) (now (rows .entry)) (now (body .entry))
+        (now (out .entry)) .output) ⌝ }
 {
     let mut slots = [0; 16];
     let outline = slots_of(record, &mut slots);
@@ -43,6 +53,7 @@ pub fn write(record: Record, source: &[u8], rows: &[u32], body: &[u8], out: &mut
         rows,
         body,
         out,
+        ceiling,
     )
 }
 
@@ -57,10 +68,11 @@ pub fn write_slots(
     rows: &[u32],
     body: &[u8],
     out: &mut [u8],
+    ceiling: u32,
 ) -> Encoded
-    ensures { λ r. ⌜ (r ≡ written (recordOf kind id «header_version» slots count) (now (source .entry)) (now (rows .entry))
+    ensures { λ r. ⌜ (r ≡ written ceiling (recordOf kind id «header_version» slots count) (now (source .entry)) (now (rows .entry))
         (now (body .entry)) (now (out .entry)) .answer)
-        × (now (out .exit) ≡ written (recordOf kind id «header_version» slots count) (now (source .entry)) (now (rows .entry))
+        × (now (out .exit) ≡ written ceiling (recordOf kind id «header_version» slots count) (now (source .entry)) (now (rows .entry))
         (now (body .entry)) (now (out .entry)) .output) ⌝ }
 {
     write_values(
@@ -73,5 +85,6 @@ pub fn write_slots(
         rows,
         body,
         out,
+        ceiling,
     )
 }

@@ -42,18 +42,19 @@ pub fn retired_given() -> Option<Difference> {
 // SAFETY, for every function below: each pointer is that of a slice or reference that lives through the call, with the slice's
 // length beside it, and the library keeps none of them. The reference's jobs and queues are laid out as C's are.
 
-pub fn header_check(bytes: &[u8]) -> u32 {
-    let error = unsafe { c::trpc_header_check(bytes.as_ptr(), bytes.len()) };
+pub fn header_check(bytes: &[u8], ceiling: u32) -> u32 {
+    let error = unsafe { c::trpc_header_check(bytes.as_ptr(), bytes.len(), ceiling) };
     given(&"trpc_header_check", error)
 }
 
-pub fn header_parse(bytes: &[u8]) -> Parsed {
+pub fn header_parse(bytes: &[u8], ceiling: u32) -> Parsed {
     let (mut frame_type, mut id, mut version) = (NO_NUMBER, NO_NUMBER, NO_NUMBER as u8);
     let (mut total, mut header_size) = (NO_ANSWER, NO_ANSWER);
     let error = unsafe {
         c::trpc_header_parse(
             bytes.as_ptr(),
             bytes.len(),
+            ceiling,
             &mut frame_type,
             &mut total,
             &mut header_size,
@@ -64,7 +65,7 @@ pub fn header_parse(bytes: &[u8]) -> Parsed {
     Parsed { error: given(&"trpc_header_parse", error), frame_type, total, header_size, id, version }
 }
 
-pub fn deframe(state: State, buffer: &mut [u8], piece: &[u8]) -> Deframed {
+pub fn deframe(state: State, buffer: &mut [u8], ceiling: u32, piece: &[u8]) -> Deframed {
     let State { mut held, error: mut state_error } = state;
     let (mut taken, mut size) = (NO_ANSWER, NO_ANSWER);
     let error = unsafe {
@@ -73,6 +74,7 @@ pub fn deframe(state: State, buffer: &mut [u8], piece: &[u8]) -> Deframed {
             &mut state_error,
             buffer.as_mut_ptr(),
             buffer.len(),
+            ceiling,
             piece.as_ptr(),
             piece.len(),
             &mut taken,
@@ -86,9 +88,10 @@ pub fn deframe(state: State, buffer: &mut [u8], piece: &[u8]) -> Deframed {
     Deframed { error: given(&"trpc_deframe", error), next: State { held, error: state_error }, taken, size }
 }
 
-pub fn finish(state: State, buffer: &[u8]) -> Finished {
+pub fn finish(state: State, buffer: &[u8], ceiling: u32) -> Finished {
     let mut short_by = NO_ANSWER;
-    let error = unsafe { c::trpc_finish(state.held, state.error, buffer.as_ptr(), buffer.len(), &mut short_by) };
+    let State { held, error } = state;
+    let error = unsafe { c::trpc_finish(held, error, buffer.as_ptr(), buffer.len(), ceiling, &mut short_by) };
     Finished { error: given(&"trpc_finish", error), short_by }
 }
 
@@ -114,13 +117,21 @@ fn writer(kind: Kind) -> c::Writer {
     }
 }
 
-pub fn read(kind: Kind, frame: &[u8], rows: &mut [u32], record: &mut Numbers) -> u32 {
+pub fn read(kind: Kind, frame: &[u8], ceiling: u32, rows: &mut [u32], record: &mut Numbers) -> u32 {
     let read = reader(kind);
-    let error = unsafe { read(frame.as_ptr(), frame.len(), rows.as_mut_ptr(), rows.len(), record) };
+    let error = unsafe { read(frame.as_ptr(), frame.len(), ceiling, rows.as_mut_ptr(), rows.len(), record) };
     given(&format_args!("the reader of {kind:?}"), error)
 }
 
-pub fn write(kind: Kind, record: &Numbers, source: &[u8], rows: &[u32], body: &[u8], out: &mut [u8]) -> Written {
+pub fn write(
+    kind: Kind,
+    record: &Numbers,
+    source: &[u8],
+    rows: &[u32],
+    body: &[u8],
+    out: &mut [u8],
+    ceiling: u32,
+) -> Written {
     let mut size = NO_ANSWER;
     let write = writer(kind);
     let error = unsafe {
@@ -134,6 +145,7 @@ pub fn write(kind: Kind, record: &Numbers, source: &[u8], rows: &[u32], body: &[
             body.len(),
             out.as_mut_ptr(),
             out.len(),
+            ceiling,
             &mut size,
         )
     };

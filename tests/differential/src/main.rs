@@ -2,11 +2,14 @@
 //!
 //!     differential [--inputs N] [--long] [--seed N] [--family NAME]
 //!
-//! Every answer and every lent byte, number and struct is compared after each call, and no retired number may be given. Prints
-//! the seed, one line for each family with its count and how often each error code was answered, and the total; at the first
-//! difference the smallest input found, with both answers, and exits with 1. `--long` is 100,000,000 inputs. A run with the
-//! same arguments is the same run.
+//! Every answer and every lent byte, number and struct is compared after each call, and no retired number may be given. Most inputs
+//! are at the ceiling 65,536; some of each family are tried at other ceilings as well, in the range and out of it. A run of
+//! 2,000,000 inputs or more fails where a family, but for the queue's, has not tried each of nine ceilings. Prints the seed, one
+//! line for each family with its count and how often each error code was answered, and the total; at the first difference the
+//! smallest input found, with both answers, and exits with 1. `--long` is 100,000,000 inputs. A run with the same arguments is
+//! the same run.
 
+mod ceilings;
 mod difference;
 mod families;
 mod generate;
@@ -86,6 +89,11 @@ fn main() {
         run(&mut family);
         total += family.finished();
         answered.add(&family.tally);
+        let missing = family.tally.missing_ceilings();
+        if inputs >= INPUTS && !families::WITHOUT_CEILING.contains(name) && !missing.is_empty() {
+            println!("differential: no input of this family was at the ceilings {missing:?}");
+            exit(1);
+        }
     }
     if only.is_none() && !answered.missing().is_empty() {
         println!("differential: no input was answered with {:?}", answered.missing());

@@ -8,7 +8,7 @@ use std::time::{Duration, Instant};
 
 /// An input: what both are given, compared in every answer and everything lent.
 pub trait Case: Clone {
-    /// Runs both. The tally counts the error codes answered.
+    /// Runs both. The tally counts the error codes answered and the ceilings passed.
     fn compare(&self, tally: &mut Tally) -> Result<(), Difference>;
 
     /// Inputs that are smaller in some way, those that are much smaller first.

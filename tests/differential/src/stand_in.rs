@@ -1,5 +1,6 @@
 //! Without the feature `library`: the reference under the library's own signatures, and faults that can be put into it
-//! (`--fault NAME`), to see that each is found and how small the shrinker makes its input.
+//! (`--fault NAME`), to see that each is found and how small the shrinker makes its input. Those with the ceiling are in
+//! `ceilings`.
 
 #![allow(
     clippy::too_many_arguments,
@@ -18,10 +19,12 @@ use std::slice::{from_raw_parts, from_raw_parts_mut};
 use std::sync::atomic::{AtomicU32, Ordering};
 use std::sync::OnceLock;
 
+mod ceilings;
+
 pub static FAULT: OnceLock<String> = OnceLock::new();
 
 /// Each fault, and a family whose inputs show it.
-pub const FAULTS: [(&str, &str); 51] = [
+pub const FAULTS: [(&str, &str); 127] = [
     ("header-size-of-total", "header"),
     ("id-of-16-bits", "header"),
     ("taken-one-less", "every two cuts"),
@@ -73,11 +76,90 @@ pub const FAULTS: [(&str, &str); 51] = [
     ("version-written-is-the-message's", "written versions"),
     ("version-above-255-as-255", "records"),
     ("byte-16-written-as-read", "written again"),
+    ("ceiling-ignored-by-check", "header"),
+    ("15-accepted-by-check", "bad ceilings"),
+    ("65537-accepted-by-check", "header"),
+    ("ceiling-of-24-bits-by-check", "bad ceilings"),
+    ("ceiling-above-31-bits-accepted-by-check", "last two bytes"),
+    ("ceiling-of-whole-16s-by-check", "header"),
+    ("total-below-the-ceiling-by-check", "equal sizes"),
+    ("41-after-9-by-check", "bad ceilings"),
+    ("ceiling-ignored-by-parse", "least ceiling"),
+    ("15-accepted-by-parse", "header"),
+    ("65537-accepted-by-parse", "bad ceilings"),
+    ("total-below-the-ceiling-by-parse", "header"),
+    ("41-after-9-by-parse", "header"),
+    ("outputs-left-with-41-by-parse", "last two bytes"),
+    ("total-told-with-6-by-parse", "equal sizes"),
+    ("ceiling-ignored-by-deframe", "streams"),
+    ("ceiling-ignored-in-the-piece-by-deframe", "every split"),
+    ("15-accepted-by-deframe", "standing versions"),
+    ("65537-accepted-by-deframe", "states"),
+    ("ceiling-of-24-bits-by-deframe", "bad ceilings"),
+    ("ceiling-of-whole-16s-by-deframe", "streams"),
+    ("total-below-the-ceiling-by-deframe", "ends of frames"),
+    ("41-after-1-by-deframe", "bad ceilings"),
+    ("41-after-2-by-deframe", "states"),
+    ("41-after-a-held-refusal-by-deframe", "bad ceilings"),
+    ("state-fresh-after-41-by-deframe", "switched ceilings"),
+    ("41-in-the-state-by-deframe", "several frames"),
+    ("taken-with-41-by-deframe", "every two cuts"),
+    ("buffer-touched-with-41-by-deframe", "bad ceilings"),
+    ("65536-asked-of-the-buffer-by-deframe", "round trips"),
+    ("state-judged-at-65536-by-deframe", "switched ceilings"),
+    ("16-held-judged-at-65536-by-deframe", "switched ceilings"),
+    ("refusal-not-judged-again-by-deframe", "switched ceilings"),
+    ("ceiling-of-the-call-before-by-deframe", "switched ceilings"),
+    ("total-against-the-buffer-by-deframe", "equal sizes"),
+    ("byte-past-the-ceiling-by-deframe", "equal sizes"),
+    ("ceiling-ignored-by-finish", "every two cuts"),
+    ("15-accepted-by-finish", "bad ceilings"),
+    ("65537-accepted-by-finish", "states"),
+    ("total-below-the-ceiling-by-finish", "equal sizes"),
+    ("41-after-1-by-finish", "bad ceilings"),
+    ("41-after-2-by-finish", "bad ceilings"),
+    ("41-after-a-held-refusal-by-finish", "states"),
+    ("held-told-with-41-by-finish", "states"),
+    ("65536-asked-of-the-buffer-by-finish", "least ceiling"),
+    ("refusal-not-judged-again-by-finish", "switched ceilings"),
+    ("total-against-the-buffer-by-finish", "ends of frames"),
+    ("ceiling-ignored-by-read", "short messages"),
+    ("ceiling-ignored-in-close-by-read", "messages"),
+    ("15-accepted-by-read", "random bytes"),
+    ("65537-accepted-by-read", "damaged frames"),
+    ("ceiling-of-24-bits-by-read", "bad ceilings"),
+    ("total-below-the-ceiling-by-read", "several frames"),
+    ("total-against-the-frame-by-read", "equal sizes"),
+    ("41-after-16-by-read", "lent slices"),
+    ("41-after-a-short-frame-by-read", "bad ceilings"),
+    ("rows-cleared-with-41-by-read", "messages"),
+    ("record-left-with-41-by-read", "last two bytes"),
+    ("9-over-the-ceiling-by-read", "damaged frames"),
+    ("19-at-65536-by-write", "long frames"),
+    ("ceiling-ignored-in-close-by-write", "records"),
+    ("15-accepted-by-write", "least ceiling"),
+    ("65537-accepted-by-write", "largest frames"),
+    ("ceiling-of-24-bits-by-write", "bad ceilings"),
+    ("ceiling-of-whole-16s-by-write", "round trips"),
+    ("total-below-the-ceiling-by-write", "written again"),
+    ("19-from-a-bound-by-write", "outputs"),
+    ("41-after-18-by-write", "keys"),
+    ("41-after-all-grounds-by-write", "grounds"),
+    ("41-after-27-by-write", "written versions"),
+    ("27-before-19-by-write", "records"),
+    ("ceiling-asked-of-the-output-by-write", "written versions"),
+    ("output-touched-with-41-by-write", "rows"),
+    ("output-touched-with-19-by-write", "round trips"),
+    ("size-told-with-19-by-write", "rows"),
+    ("body-not-counted-by-write", "round trips"),
 ];
 
 fn fault(name: &str) -> bool {
+    let Some(planted) = FAULT.get() else {
+        return false;
+    };
     debug_assert!(FAULTS.iter().any(|(fault, _)| *fault == name));
-    FAULT.get().is_some_and(|fault| fault == name)
+    planted == name
 }
 
 /// What an entry returns of its error code: with its fault of this name, a retired number in place of any other.
@@ -89,9 +171,9 @@ fn returned(code: u32, name: &str) -> u32 {
     }
 }
 
-pub unsafe fn trpc_header_check(bytes: *const u8, len: usize) -> u32 {
+pub unsafe fn trpc_header_check(bytes: *const u8, len: usize, ceiling: u32) -> u32 {
     let bytes = from_raw_parts(bytes, len);
-    let code = interface::header_check(bytes);
+    let code = ceilings::header_check(bytes, ceiling);
     if fault("header-size-of-total") && code == 7 {
         let fixed = header::first(bytes);
         if fixed.data_type == header::UNARY && fixed.header_size <= fixed.total {
@@ -111,6 +193,7 @@ pub unsafe fn trpc_header_check(bytes: *const u8, len: usize) -> u32 {
 pub unsafe fn trpc_header_parse(
     bytes: *const u8,
     len: usize,
+    ceiling: u32,
     frame_type: *mut u32,
     total: *mut usize,
     header_size: *mut usize,
@@ -118,7 +201,9 @@ pub unsafe fn trpc_header_parse(
     header_version: *mut u8,
 ) -> u32 {
     let bytes = from_raw_parts(bytes, len);
-    let answer = interface::header_parse(bytes);
+    let Some(answer) = ceilings::header_parse(bytes, ceiling) else {
+        return 41;
+    };
     *frame_type = answer.frame_type;
     *total = answer.total;
     *header_size = answer.header_size;
@@ -132,9 +217,10 @@ pub unsafe fn trpc_header_parse(
 }
 
 /// Whether the state is one that held 8 by document 01's rule: 16 bytes that are good but for the last two.
-fn held_8(state: State, buffer: &[u8]) -> bool {
-    let state_of_8 = buffer.len() >= header::LARGEST && state == State { held: header::SIZE, error: 8 };
-    state_of_8 && header::first(buffer).error() == 0 && buffer[14..header::SIZE] != [0, 0]
+fn held_8(state: State, buffer: &[u8], ceiling: u32) -> bool {
+    let judged = header::in_range(ceiling) && buffer.len() >= ceiling as usize;
+    let good = || header::first(buffer).error(ceiling) == 0 && buffer[14..header::SIZE] != [0, 0];
+    judged && state == State { held: header::SIZE, error: 8 } && good()
 }
 
 pub unsafe fn trpc_deframe(
@@ -142,6 +228,7 @@ pub unsafe fn trpc_deframe(
     error: *mut u32,
     buffer: *mut u8,
     buffer_len: usize,
+    ceiling: u32,
     piece: *const u8,
     piece_len: usize,
     taken: *mut usize,
@@ -151,12 +238,12 @@ pub unsafe fn trpc_deframe(
     let buffer = from_raw_parts_mut(buffer, buffer_len);
     let byte_15 = buffer.get(14).copied();
     let piece = from_raw_parts(piece, piece_len);
-    let mut answer = interface::deframe(state, buffer, piece);
-    if fault("retired-number-repeated") && held_8(state, buffer) {
+    let mut answer = ceilings::deframe(state, buffer, ceiling, piece);
+    if fault("retired-number-repeated") && held_8(state, buffer, ceiling) {
         answer.error = 8;
     }
-    if fault("state-of-8-goes-on") && held_8(state, buffer) {
-        answer = interface::deframe(State { error: 0, ..state }, buffer, piece);
+    if fault("state-of-8-goes-on") && held_8(state, buffer, ceiling) {
+        answer = interface::deframe(State { error: 0, ..state }, buffer, ceiling, piece);
     }
     if fault("frame-of-a-version-not-known") && state.held > header::SIZE && answer.error == 0 && byte_15 != Some(0) {
         answer = Deframed { error: 2, next: state, taken: 0, size: 0 };
@@ -189,21 +276,28 @@ pub unsafe fn trpc_deframe(
     returned(answer.error, "retired-number-of-deframe")
 }
 
-pub unsafe fn trpc_finish(held: usize, error: u32, buffer: *const u8, buffer_len: usize, short_by: *mut usize) -> u32 {
+pub unsafe fn trpc_finish(
+    held: usize,
+    error: u32,
+    buffer: *const u8,
+    buffer_len: usize,
+    ceiling: u32,
+    short_by: *mut usize,
+) -> u32 {
     let (state, buffer) = (State { held, error }, from_raw_parts(buffer, buffer_len));
-    let mut end = interface::finish(state, buffer);
-    if fault("retired-number-at-the-end") && held_8(state, buffer) {
+    let mut end = ceilings::finish(state, buffer, ceiling);
+    if fault("retired-number-at-the-end") && held_8(state, buffer, ceiling) {
         end = Finished { error: 8, short_by: 0 };
     }
     *short_by = end.short_by;
     returned(end.error, "retired-number-of-finish")
 }
 
-pub type Reader = unsafe fn(*const u8, usize, *mut u32, usize, *mut Numbers) -> u32;
+pub type Reader = unsafe fn(*const u8, usize, u32, *mut u32, usize, *mut Numbers) -> u32;
 
 #[rustfmt::skip]
 pub type Writer = unsafe fn(
-    *const Numbers, *const u8, usize, *const u32, usize, *const u8, usize, *mut u8, usize, *mut usize,
+    *const Numbers, *const u8, usize, *const u32, usize, *const u8, usize, *mut u8, usize, u32, *mut usize,
 ) -> u32;
 
 /// The version of the frame that was read last.
@@ -214,7 +308,7 @@ fn mistake_version(kind: Kind, frame: &[u8], code: u32, record: &mut Numbers) {
     let version = &mut record[VERSION];
     let before = READ_LAST.swap(*version, Ordering::Relaxed);
     if code != 0 {
-        if fault("version-of-a-refusal") && code != 16 && frame.len() > 14 {
+        if fault("version-of-a-refusal") && code != 16 && code != 41 && frame.len() > 14 {
             *version = frame[14].into();
         }
         return;
@@ -239,9 +333,9 @@ fn mistake_version(kind: Kind, frame: &[u8], code: u32, record: &mut Numbers) {
     }
 }
 
-fn read(kind: Kind, frame: &[u8], rows: &mut [u32], record: &mut Numbers) -> u32 {
+fn read(kind: Kind, frame: &[u8], ceiling: u32, rows: &mut [u32], record: &mut Numbers) -> u32 {
     let last = rows.get(255).copied();
-    let code = interface::read(kind, frame, rows, record);
+    let code = ceilings::read(kind, frame, ceiling, rows, record);
     mistake_version(kind, frame, code, record);
     if fault("timeout-of-seven-bits") && kind == Kind::Request {
         record[11] &= 0x7F;
@@ -286,9 +380,17 @@ fn miswrite_version(kind: Kind, record: &Numbers, source: &[u8], out: &mut [u8])
     }
 }
 
-fn write(kind: Kind, record: &Numbers, source: &[u8], rows: &[u32], body: &[u8], out: &mut [u8]) -> Written {
-    let mut answer = interface::write(kind, record, source, rows, body, out);
-    if answer.size > 0 {
+fn write(
+    kind: Kind,
+    record: &Numbers,
+    source: &[u8],
+    rows: &[u32],
+    body: &[u8],
+    out: &mut [u8],
+    ceiling: u32,
+) -> Written {
+    let mut answer = ceilings::write(kind, record, source, rows, body, out, ceiling);
+    if answer.error == 0 {
         miswrite_version(kind, record, source, out);
     }
     if fault("written-past-the-frame") && answer.size > 40 && answer.size < out.len() {
@@ -323,8 +425,16 @@ fn write(kind: Kind, record: &Numbers, source: &[u8], rows: &[u32], body: &[u8],
 
 macro_rules! readers {
     ($($name:ident $kind:ident)*) => { $(
-        pub unsafe fn $name(frame: *const u8, frame_len: usize, rows: *mut u32, rows_len: usize, record: *mut Numbers) -> u32 {
-            read(Kind::$kind, from_raw_parts(frame, frame_len), from_raw_parts_mut(rows, rows_len), &mut *record)
+        pub unsafe fn $name(
+            frame: *const u8,
+            frame_len: usize,
+            ceiling: u32,
+            rows: *mut u32,
+            rows_len: usize,
+            record: *mut Numbers,
+        ) -> u32 {
+            let (frame, rows) = (from_raw_parts(frame, frame_len), from_raw_parts_mut(rows, rows_len));
+            read(Kind::$kind, frame, ceiling, rows, &mut *record)
         }
     )* };
 }
@@ -341,11 +451,12 @@ macro_rules! writers {
             body_len: usize,
             out: *mut u8,
             out_len: usize,
+            ceiling: u32,
             size: *mut usize,
         ) -> u32 {
             let (source, rows) = (from_raw_parts(source, source_len), from_raw_parts(rows, rows_len));
             let (body, out) = (from_raw_parts(body, body_len), from_raw_parts_mut(out, out_len));
-            let answer = write(Kind::$kind, &*record, source, rows, body, out);
+            let answer = write(Kind::$kind, &*record, source, rows, body, out, ceiling);
             *size = answer.size;
             returned(answer.error, "retired-number-of-write")
         }

@@ -15,7 +15,8 @@ returns c = rw (← c .before .check-header .ensures, ne-eqb _ _ (c .if1 .taken)
 header-in-requires : tie.Need-header-in-requires
 header-in-requires c κs =
     let at-check = c .before in
-    omega (arith, good-length (at-check .before .before .args .bytes .now) (sym (at-check .check-header .ensures) ∙ c .if1 .left))
+    let args = at-check .before .before .args in
+    omega (arith, good-length (args .ceiling) (args .bytes .now) (sym (at-check .check-header .ensures) ∙ c .if1 .left))
 
 returns-2 : tie.Need-returns-2
 unfolding parsed

@@ -6,6 +6,7 @@ use mathlib.Core.List.{List}
 use native.Mathlib.Omega.{arith}
 use lib.ListN.{length, take, drop, length-drop}
 use lib.Seq.{take-all}
+use Rattle.fixed_header.specs.Header.{maxFrame}
 use Rattle.deframer.specs.Deframe.{deframed}
 use Rattle.deframer.specs.Deframe.{isRefused}
 use Rattle.deframer.specs.declared.Deframer.{Deframer}
@@ -19,12 +20,12 @@ whole : (piece : List ℕ) (from : ℕ) → take (length piece - from) (drop fro
 whole piece from = take-all (length piece - from) (drop from piece) (omega (arith, length-drop from piece))
 
 taken : (st : Deframer) (buffer piece : List ℕ) (from : ℕ) (step : Step) → from < length piece
-    → step ≡ deframed st buffer (drop from piece) .step
+    → step ≡ deframed maxFrame st buffer (drop from piece) .step
     → (from + step .taken ≤ length piece) × (isRefused (step .progress) ≡ false → 0 < step .taken)
 taken st buffer piece from step h e =
     let rest = drop from piece in
     let l : length rest ≡ length piece - from = length-drop from piece in
-    rw e (omega (arith, taken-within st buffer rest), λ n. taken-some st buffer rest (omega arith) n)
+    rw e (omega (arith, taken-within maxFrame st buffer rest), λ n. taken-some maxFrame st buffer rest (omega arith) n)
 
 sub-deframe : tie.Need-sub-deframe
 sub-deframe c = search needs
@@ -50,10 +51,10 @@ returns c =
     let piece = given .piece .now in
     let from = given .from in
     let rest = whole piece from in
-    let answer = called .ensures .0 ∙ ap (λ (r : List ℕ). deframed st buffer r .step) rest in (
+    let answer = called .ensures .0 ∙ ap (λ (r : List ℕ). deframed maxFrame st buffer r .step) rest in (
       answer,
       (
-        called .ensures .1 ∙ ap (λ (r : List ℕ). deframed st buffer r .buffer) rest,
+        called .ensures .1 ∙ ap (λ (r : List ℕ). deframed maxFrame st buffer r .buffer) rest,
         taken st buffer piece from (called .result) (omega arith) answer,
       ),
     )

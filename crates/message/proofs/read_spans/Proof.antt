@@ -28,8 +28,9 @@ read-spans-spec =
     let at-read = c .before .before .before .before .before .before in
     let start = at-read .before .before .before .before in
     let read = at-read .read-parts .ensures in (
-      together (readFrame (start .args .kind) (start .args .frame .now) (start .args .rows .now)) (length (start .args .frame .now))
-          (read .answer-is) (c .before .before .span .ensures ∙ read .header-at) (c .before .span2 .ensures ∙ read .body-at)
+      together (readFrame (start .args .ceiling) (start .args .kind) (start .args .frame .now) (start .args .rows .now))
+          (length (start .args .frame .now)) (read .answer-is) (c .before .before .span .ensures ∙ read .header-at)
+          (c .before .span2 .ensures ∙ read .body-at)
           (c .span3 .ensures ∙ read .attachment-at),
       read .rows-are,
     )))

@@ -12,8 +12,8 @@ returns c =
     let at-slots = at-write .before .before .before in
     let args = at-slots .before .before .before .before .before .before .args in
     let is = at-slots .slots-of .ensures in
-    let same = as-record (args .«record») (is .0) (is .1) (is .2) (is .4) (is .3) (args .source .now) (args .rows .now) (args .body .now)
-    (args .out .now) in
+    let same = as-record (args .ceiling) (args .«record») (is .0) (is .1) (is .2) (is .4) (is .3) (args .source .now) (args .rows .now)
+    (args .body .now) (args .out .now) in
     let wrote = at-write .write-values .ensures in
     (wrote .0 ∙ ap (λ (w : Writing). w .answer) same, wrote .1 ∙ ap (λ (w : Writing). w .output) same)
 

@@ -16,7 +16,7 @@ returns c =
     let start = at-write .before .before .before .before .before .before .before in
     let args = start .args in
     let fit : (i : ℕ) → Fits w32 (getD (args .t4) i 0) = λ i. search needs in
-    let same = from-slots (args .id) (args .header-version) (args .t4) (args .count) (λ i. fit i .fits) (args .kind)
+    let same = from-slots (args .id) (args .header-version) (args .t4) (args .count) (λ i. fit i .fits) (args .ceiling) (args .kind)
     (args .source .now) (args .rows .now) (args .body .now) (args .out .now) in
     let wrote = at-write .write-values .ensures in
     (wrote .0 ∙ ap (λ (w : Writing). w .answer) same, wrote .1 ∙ ap (λ (w : Writing). w .output) same)

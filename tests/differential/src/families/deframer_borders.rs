@@ -1,10 +1,11 @@
 //! The deframer at its borders: pieces that end with a frame, right before its end or right after, with any of its first bytes
-//! held.
+//! held; ceilings and buffers at the frame's size and next to it.
 
 use super::deframer::{Standing, Stream};
+use crate::ceilings::near;
 use crate::generate::{frame, with_last_two};
 use crate::reference::deframer::State;
-use crate::reference::header::{judge, LARGEST, SIZE};
+use crate::reference::header::{judge, HIGHEST_CEILING, LARGEST, SIZE};
 use crate::reference::messages::Kind;
 use crate::reference::RETIRED;
 use crate::run::Family;
@@ -16,14 +17,14 @@ const SIZES: [usize; 15] = [16, 17, 31, 32, 33, 255, 4_095, 4_096, 4_097, 8_191,
 const HELD: usize = 20;
 
 /// A frame of so many bytes. Those of one size have one version, and hardly any two sizes the same.
-fn frame_of(size: usize) -> Vec<u8> {
+pub fn frame_of(size: usize) -> Vec<u8> {
     let kind = [Kind::Data, Kind::Request][size % 2];
     let body: Vec<u8> = (SIZE..size).map(|place| place as u8 ^ (place >> 8) as u8).collect();
     with_last_two(frame(kind, 7, &[], &body), (size / 16) as u8, size as u8)
 }
 
 /// A header for each refusal, with bytes after it.
-fn refused() -> Vec<Vec<u8>> {
+pub fn refused() -> Vec<Vec<u8>> {
     let changes: [&[(usize, u8)]; 7] =
         [&[(0, 0x30)], &[(1, 0x09)], &[(2, 2)], &[(3, 5)], &[(7, 15), (6, 0)], &[(5, 1), (6, 0), (7, 1)], &[(9, 1)]];
     let change = |changes: &&[(usize, u8)]| {
@@ -36,9 +37,19 @@ fn refused() -> Vec<Vec<u8>> {
 
 /// One call with so many bytes of the frame held, in a buffer that is exact or longer.
 fn call(family: &mut Family, frame: &[u8], held: usize, error: u32, piece: &[u8]) {
-    let start = frame[..held.min(frame.len())].to_vec();
+    let start = &frame[..held.min(frame.len())];
     let length = LARGEST + 100 * (held % 2);
-    family.check(&Standing { state: State { held, error }, length, start, piece: piece.to_vec() });
+    family.check_limited(&Standing::plain(State { held, error }, length, start, piece));
+}
+
+/// The same call at the ceilings at a size and next to it, each with buffers of that length and next to it.
+fn call_near(family: &mut Family, size: usize, frame: &[u8], held: usize, piece: &[u8]) {
+    let case = Standing::plain(State { held, error: 0 }, LARGEST, &frame[..held.min(frame.len())], piece);
+    for ceiling in near(size) {
+        for length in near(ceiling as usize) {
+            family.check(&Standing { ceiling, length: length as usize, ..case.clone() });
+        }
+    }
 }
 
 /// A piece with the rest of a frame: to its end, one byte less or more, and with other frames after it.
@@ -50,7 +61,9 @@ pub fn ends(family: &mut Family) {
         for held in 0..=HELD {
             let rest = &whole[held.min(size)..];
             for taken in [0, 1, rest.len() / 2, rest.len().saturating_sub(1), rest.len()] {
-                call(family, &whole, held, 0, &rest[..taken.min(rest.len())]);
+                let piece = &rest[..taken.min(rest.len())];
+                call(family, &whole, held, 0, piece);
+                call_near(family, size, &whole, held, piece);
             }
             RETIRED.iter().for_each(|error| call(family, &whole, held, *error, rest));
             for next in &after {
@@ -61,7 +74,7 @@ pub fn ends(family: &mut Family) {
         }
     }
     for bad in refused() {
-        let error = judge(&bad[..SIZE]);
+        let error = judge(&bad[..SIZE], HIGHEST_CEILING);
         for held in 0..=HELD {
             let rest = &bad[held..];
             for taken in [0, 1, (SIZE - 1).saturating_sub(held), SIZE.saturating_sub(held), rest.len()] {
@@ -73,14 +86,15 @@ pub fn ends(family: &mut Family) {
 }
 
 /// Streams of three frames, or of one and a header that is refused, in one piece, and in pieces that end with a frame or near its
-/// end.
+/// end, at every ceiling.
 pub fn several(family: &mut Family) {
     const SIZES: [usize; 7] = [16, 17, 4_095, 4_096, 4_097, 8_192, LARGEST];
     for first in SIZES {
         for bad in refused() {
             let bytes = [frame_of(first), bad].concat();
             for pieces in [vec![], vec![first], vec![first - 1], vec![first + SIZE - 1], vec![first + SIZE]] {
-                family.check(&Stream { bytes: bytes.clone(), pieces, side: Kind::Response, misused: true });
+                let case = Stream::plain(&bytes, pieces, Kind::Response);
+                family.check_at_each(&Stream { misused: true, ..case });
             }
         }
         for second in SIZES {
@@ -96,7 +110,7 @@ pub fn several(family: &mut Family) {
                 vec![1, first + second],
             ];
             for pieces in pieces {
-                family.check(&Stream { bytes: bytes.clone(), pieces, side: Kind::Request, misused: false });
+                family.check_at_each(&Stream::plain(&bytes, pieces, Kind::Request));
             }
         }
     }

@@ -1,33 +1,61 @@
 //! The judge of a fixed header, and what a good one says: every length from 0 to 40, good headers with some bytes changed, and
 //! any bytes.
 
+use crate::ceilings::{plainer, Limited};
 use crate::difference::{hex, same, Difference};
 use crate::lent::Lent;
 use crate::library;
 use crate::random::Random;
+use crate::reference::header::{first, HIGHEST_CEILING, SIZE};
 use crate::reference::interface;
 use crate::run::{Family, Tally};
 use crate::shrink::{fewer, lower, Case};
 
 #[derive(Clone)]
-pub struct Header(pub Vec<u8>);
+pub struct Header {
+    pub bytes: Vec<u8>,
+    pub ceiling: u32,
+}
+
+impl Header {
+    pub fn plain(bytes: &[u8]) -> Header {
+        Header { bytes: bytes.to_vec(), ceiling: HIGHEST_CEILING }
+    }
+}
 
 impl Case for Header {
     fn compare(&self, tally: &mut Tally) -> Result<(), Difference> {
-        let lent = Lent::new(&self.0, 0x09);
-        let expected = interface::header_check(&self.0);
+        let Header { bytes, ceiling } = self;
+        let lent = Lent::new(bytes, 0x09);
+        let expected = interface::header_check(bytes, *ceiling);
         tally.count(expected);
-        same(&"the error code", &expected, &library::header_check(lent.get()))?;
-        same(&"what it says", &interface::header_parse(&self.0), &library::header_parse(lent.get()))?;
-        lent.holds("the header", &self.0)
+        tally.count_ceiling(*ceiling);
+        same(&"the error code", &expected, &library::header_check(lent.get(), *ceiling))?;
+        let expected = interface::header_parse(bytes, *ceiling);
+        same(&"what it says", &expected, &library::header_parse(lent.get(), *ceiling))?;
+        lent.holds("the header", bytes)
     }
 
     fn smaller(&self) -> Box<dyn Iterator<Item = Header> + '_> {
-        Box::new(fewer(&self.0).chain(lower(&self.0)).map(Header))
+        let headers = fewer(&self.bytes).chain(lower(&self.bytes)).map(|bytes| Header { bytes, ..self.clone() });
+        Box::new(headers.chain(plainer(self.ceiling).map(|ceiling| Header { ceiling, ..self.clone() })))
     }
 
     fn show(&self) -> String {
-        format!("header, {} bytes: {}", self.0.len(), hex(&self.0))
+        format!("header, {} bytes: {}\nat ceiling {}", self.bytes.len(), hex(&self.bytes), self.ceiling)
+    }
+}
+
+impl Limited for Header {
+    fn sizes(&self) -> Vec<usize> {
+        if self.bytes.len() < SIZE {
+            return Vec::new();
+        }
+        vec![first(&self.bytes).total]
+    }
+
+    fn at(&self, ceiling: u32, _: &mut Random) -> Header {
+        Header { ceiling, ..self.clone() }
     }
 }
 
@@ -37,12 +65,12 @@ pub fn headers(family: &mut Family) {
             let mut bytes = header(&mut family.random).to_vec();
             bytes.extend(family.random.bytes(24));
             bytes.truncate(length);
-            family.check(&Header(bytes));
+            family.check_limited(&Header::plain(&bytes));
         }
     }
     for _ in 820..family.inputs {
         let header = header(&mut family.random);
-        family.check(&Header(header.to_vec()));
+        family.check_limited(&Header::plain(&header));
     }
 }
 

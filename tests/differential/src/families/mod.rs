@@ -1,5 +1,6 @@
 //! The families of inputs.
 
+pub mod ceilings;
 pub mod deframer;
 pub mod deframer_borders;
 pub mod header;
@@ -12,7 +13,8 @@ pub mod writer_borders;
 
 use crate::run::Family;
 
-/// A family by name, with its share of a thousand inputs. One whose share is 0 tries a set of inputs of its own, whole.
+/// A family by name, with how many inputs it has for a thousand of the run's. One with 0 tries a set of inputs of its own, whole.
+/// What is tried at another ceiling as well comes on top.
 type Entry = (&'static str, u64, fn(&mut Family));
 
 pub const ALL: &[Entry] = &[
@@ -40,6 +42,13 @@ pub const ALL: &[Entry] = &[
     ("keys", 0, writer_borders::keys),
     ("round trips", 35, round_trip::round_trips),
     ("written again", 20, round_trip::written_again),
+    ("bad ceilings", 15, ceilings::bad),
+    ("least ceiling", 0, ceilings::least),
+    ("equal sizes", 0, ceilings::borders),
+    ("switched ceilings", 10, ceilings::switched),
     ("queue calls", 30, queue::calls),
     ("queues", 20, queue::queues),
 ];
+
+/// Those whose entries take no ceiling.
+pub const WITHOUT_CEILING: [&str; 2] = ["queue calls", "queues"];

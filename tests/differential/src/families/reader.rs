@@ -1,21 +1,23 @@
 //! The reader of a frame.
 
+use crate::ceilings::{lowered, plainer, Limited};
 use crate::difference::{hex, same, Difference};
 use crate::generate::{damage, frame, Generator};
 use crate::lent::Lent;
 use crate::library;
 use crate::random::Random;
-use crate::reference::header::{first, SIZE, UNARY};
+use crate::reference::header::{first, HIGHEST_CEILING, SIZE, UNARY};
 use crate::reference::interface::{self, Numbers, RECORD_NUMBERS};
 use crate::reference::messages::{Kind, ROW_NUMBERS};
 use crate::run::{Family, Tally};
 use crate::shrink::{fewer, lower, smaller_messages, Case};
 
-/// A frame read as a kind, with so many row numbers lent.
+/// A frame read as a kind at a ceiling, with so many row numbers lent.
 #[derive(Clone)]
 pub struct Reading {
     pub kind: Kind,
     pub frame: Vec<u8>,
+    pub ceiling: u32,
     pub rows: usize,
 }
 
@@ -31,7 +33,7 @@ pub fn filled_record(with: u32) -> Numbers {
 
 impl Reading {
     pub fn plain(kind: Kind, frame: Vec<u8>) -> Reading {
-        Reading { kind, frame, rows: ROW_NUMBERS + 8 }
+        Reading { kind, frame, ceiling: HIGHEST_CEILING, rows: ROW_NUMBERS + 8 }
     }
 }
 
@@ -41,32 +43,52 @@ impl Case for Reading {
         let (mut lent_rows, mut lent_record) = (Lent::new(&rows, 0xBEEF), Lent::new(&record, 0xFEED));
         let lent_frame = Lent::new(&self.frame, 0x08);
 
-        let expected = interface::read(self.kind, &self.frame, &mut rows, &mut record);
-        let actual = library::read(self.kind, lent_frame.get(), lent_rows.get_mut(), lent_record.array());
+        let Reading { kind, frame, ceiling, .. } = self;
+        let expected = interface::read(*kind, frame, *ceiling, &mut rows, &mut record);
+        let actual = library::read(*kind, lent_frame.get(), *ceiling, lent_rows.get_mut(), lent_record.array());
 
         tally.count(expected);
+        tally.count_ceiling(*ceiling);
         same(&"the error code", &expected, &actual)?;
         lent_record.holds("the record", &record)?;
         lent_rows.holds("the row numbers", &rows)?;
-        lent_frame.holds("the frame", &self.frame)
+        lent_frame.holds("the frame", frame)
     }
 
     fn smaller(&self) -> Box<dyn Iterator<Item = Reading> + '_> {
-        let with = |frame| Reading { frame, ..self.clone() };
         let fewer_rows = (ROW_NUMBERS < self.rows).then(|| Reading { rows: ROW_NUMBERS, ..self.clone() });
+        let ceilings = plainer(self.ceiling).map(|ceiling| Reading { ceiling, ..self.clone() });
         let frames = smaller_frames(&self.frame).into_iter().chain(fewer(&self.frame)).chain(lower(&self.frame));
-        Box::new(fewer_rows.into_iter().chain(frames.map(with)))
+        // As it is, and with a ceiling that is lower by as much as the frame is shorter.
+        let frames = frames.flat_map(move |frame| {
+            let lower = lowered(self.ceiling, self.frame.len(), frame.len());
+            let with = move |ceiling| Reading { frame: frame.clone(), ceiling, ..self.clone() };
+            lower.into_iter().chain([self.ceiling]).map(with)
+        });
+        Box::new(fewer_rows.into_iter().chain(frames).chain(ceilings))
     }
 
     fn show(&self) -> String {
         format!(
-            "read as {:?} with {} row numbers (A5A50000 and on) and a record of {RECORD_NUMBERS} (5A5A0000 and on)\n\
-             frame, {} bytes: {}",
+            "read as {:?} at ceiling {} with {} row numbers (A5A50000 and on) and a record of {RECORD_NUMBERS} (5A5A0000 \
+             and on)\nframe, {} bytes: {}",
             self.kind,
+            self.ceiling,
             self.rows,
             self.frame.len(),
             hex(&self.frame)
         )
+    }
+}
+
+impl Limited for Reading {
+    fn sizes(&self) -> Vec<usize> {
+        let total = (self.frame.len() >= SIZE).then(|| first(&self.frame).total);
+        total.into_iter().chain([self.frame.len()]).collect()
+    }
+
+    fn at(&self, ceiling: u32, _: &mut Random) -> Reading {
+        Reading { ceiling, ..self.clone() }
     }
 }
 
@@ -99,7 +121,7 @@ pub fn short_messages(family: &mut Family) {
         0x81, 0xFF,
     ];
     for kind in [Kind::Request, Kind::Response, Kind::Init, Kind::Feedback, Kind::Close] {
-        let mut check = |message: &[u8]| family.check(&Reading::plain(kind, frame(kind, 7, message, &[])));
+        let mut check = |message: &[u8]| family.check_limited(&Reading::plain(kind, frame(kind, 7, message, &[])));
         check(&[]);
         for first in 0..=255 {
             check(&[first]);
@@ -140,7 +162,7 @@ pub fn message_frame(random: &mut Random) -> (Kind, Vec<u8>) {
 pub fn messages(family: &mut Family) {
     for _ in 0..family.inputs {
         let (kind, frame) = message_frame(&mut family.random);
-        family.check(&Reading::plain(kind, frame));
+        family.check_limited(&Reading::plain(kind, frame));
     }
 }
 
@@ -152,7 +174,7 @@ pub fn damaged(family: &mut Family) {
         if family.random.one_in(16) {
             kind = family.random.pick(&Kind::ALL);
         }
-        family.check(&Reading::plain(kind, frame));
+        family.check_limited(&Reading::plain(kind, frame));
     }
 }
 
@@ -169,23 +191,28 @@ pub fn random_bytes(family: &mut Family) {
         let body = if kind.is_unary() { random.bytes(body_size) } else { Vec::new() };
         let id = random.u32();
         let frame = Generator { random, tidy: false }.under_a_version(frame(kind, id, &message, &body));
-        family.check(&Reading::plain(kind, frame));
+        family.check_limited(&Reading::plain(kind, frame));
     }
+}
+
+/// A frame, damaged or not, read as any kind, with any count of row numbers.
+pub fn any_reading(random: &mut Random) -> Reading {
+    let (mut kind, mut frame) = message_frame(random);
+    if random.one_in(4) {
+        damage(random, &mut frame);
+    }
+    if random.one_in(4) {
+        kind = random.pick(&Kind::ALL);
+    }
+    let some = random.below(400);
+    let rows = random.pick(&[0, 1, 4, 255, 256, 256, 256, 257, 300, 300, some]);
+    Reading { rows, ..Reading::plain(kind, frame) }
 }
 
 /// Row slices of other lengths, and frames read as every kind.
 pub fn lent_slices(family: &mut Family) {
     for _ in 0..family.inputs {
-        let (mut kind, mut frame) = message_frame(&mut family.random);
-        let random = &mut family.random;
-        if random.one_in(4) {
-            damage(random, &mut frame);
-        }
-        if random.one_in(4) {
-            kind = random.pick(&Kind::ALL);
-        }
-        let some = random.below(400);
-        let rows = random.pick(&[0, 1, 4, 255, 256, 256, 256, 257, 300, 300, some]);
-        family.check(&Reading { kind, frame, rows });
+        let case = any_reading(&mut family.random);
+        family.check_limited(&case);
     }
 }

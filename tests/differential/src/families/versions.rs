@@ -29,14 +29,14 @@ pub fn last_two_bytes(family: &mut Family) {
         for version in 0..=255 {
             for last in 0..=255 {
                 let frame = with_last_two(good.clone(), version, last);
-                family.check(&Header(frame[..SIZE].to_vec()));
-                family.check(&Reading::plain(kind, frame));
+                family.check_limited(&Header::plain(&frame[..SIZE]));
+                family.check_limited(&Reading::plain(kind, frame));
             }
             for (place, byte) in [(0, 0x30), (2, 2), (5, 2), (9, 0xFF), (7, 99)] {
                 let mut bad = with_last_two(good.clone(), version, !version);
                 bad[place] = byte;
-                family.check(&Header(bad[..SIZE].to_vec()));
-                family.check(&Reading::plain(kind, bad));
+                family.check_limited(&Header::plain(&bad[..SIZE]));
+                family.check_limited(&Reading::plain(kind, bad));
             }
         }
     }
@@ -51,8 +51,7 @@ pub fn standing(family: &mut Family) {
             let frame = with_last_two(good.clone(), version, last);
             for (held, error) in [(0, 0), (14, 0), (15, 0), (16, 0), (16, 8), (16, 7), (17, 0), (20, 0), (20, 8)] {
                 let (start, piece) = frame.split_at(held);
-                let state = State { held, error };
-                family.check(&Standing { state, length: LARGEST, start: start.to_vec(), piece: piece.to_vec() });
+                family.check_limited(&Standing::plain(State { held, error }, LARGEST, start, piece));
             }
         }
     }
@@ -75,7 +74,7 @@ pub fn written(family: &mut Family) {
             }
             let exact = case.size().unwrap();
             for out in [exact, exact - 1, exact + 40] {
-                family.check(&case.with_output(out));
+                family.check_limited(&case.with_output(out));
             }
         }
     }

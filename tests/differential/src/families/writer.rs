@@ -1,17 +1,18 @@
 //! The writer of a frame.
 
+use crate::ceilings::{length, lowered, plainer, Limited};
 use crate::difference::{hex, same, Difference};
 use crate::lent::Lent;
 use crate::library;
 use crate::random::Random;
-use crate::reference::header::{LARGEST, SIZE};
+use crate::reference::header::{HIGHEST_CEILING, LARGEST, SIZE};
 use crate::reference::interface::{self, Numbers, RECORD_NUMBERS, VERSION};
 use crate::reference::messages::Kind;
 use crate::reference::writer::frame;
 use crate::run::{Family, Tally};
 use crate::shrink::{each_less, fewer, less, lower, Case};
 
-/// A record to be written, and an output of so many bytes.
+/// A record to be written at a ceiling, and an output of so many bytes.
 #[derive(Clone)]
 pub struct Writing {
     pub kind: Kind,
@@ -20,6 +21,7 @@ pub struct Writing {
     pub rows: Vec<u32>,
     pub body: Vec<u8>,
     pub out: usize,
+    pub ceiling: u32,
 }
 
 /// Where a record has what, by kind. Byte fields are named by the place of their start.
@@ -52,13 +54,13 @@ fn unwritten(count: usize) -> Vec<u8> {
 
 impl Case for Writing {
     fn compare(&self, tally: &mut Tally) -> Result<(), Difference> {
-        let Writing { kind, record, source, rows, body, .. } = self;
+        let Writing { kind, record, source, rows, body, ceiling, .. } = self;
         let mut out = unwritten(self.out);
         let mut lent_out = Lent::new(&out, 0x5C);
         let (mut lent_record, lent_rows) = (Lent::new(record, 7), Lent::new(rows, 1));
         let (lent_source, lent_body) = (Lent::new(source, 0x73), Lent::new(body, 0x62));
 
-        let expected = interface::write(*kind, record, source, rows, body, &mut out);
+        let expected = interface::write(*kind, record, source, rows, body, &mut out, *ceiling);
         let actual = library::write(
             *kind,
             lent_record.array(),
@@ -66,8 +68,10 @@ impl Case for Writing {
             lent_rows.get(),
             lent_body.get(),
             lent_out.get_mut(),
+            *ceiling,
         );
         tally.count(expected.error);
+        tally.count_ceiling(*ceiling);
         same(&"the answer", &expected, &actual)?;
         lent_out.holds("the output", &out)?;
         lent_record.holds("the record", record)?;
@@ -89,13 +93,22 @@ impl Case for Writing {
         let records =
             each_less(&self.record).map(|record| Writing { record: record.try_into().unwrap(), ..self.clone() });
         let outs = less(self.out as u64).map(|out| Writing { out: out as usize, ..self.clone() });
-        Box::new(bodies.chain(without_row).chain(records).chain(rows).chain(sources).chain(outs))
+        let ceilings = plainer(self.ceiling).map(|ceiling| Writing { ceiling, ..self.clone() });
+        let all = bodies.chain(without_row).chain(records).chain(rows).chain(sources).chain(outs);
+        // Each as it is, and with a ceiling that is lower by as much as the frame is shorter.
+        let before = self.size().filter(|_| self.ceiling != HIGHEST_CEILING);
+        let all = all.flat_map(move |smaller| {
+            let ceiling = before.and_then(|before| lowered(self.ceiling, before, smaller.size()?));
+            let lower = ceiling.map(|ceiling| Writing { ceiling, ..smaller.clone() });
+            lower.into_iter().chain([smaller])
+        });
+        Box::new(all.chain(ceilings))
     }
 
     fn show(&self) -> String {
         format!(
             "written as {:?}\nrecord, in hex: {:X?}\nsource, {} bytes: {}\nrows, {} numbers in hex: {:X?}\n\
-             body, {} bytes: {}\noutput of {} bytes",
+             body, {} bytes: {}\noutput of {} bytes, ceiling {}",
             self.kind,
             self.record,
             self.source.len(),
@@ -104,21 +117,34 @@ impl Case for Writing {
             self.rows,
             self.body.len(),
             hex(&self.body),
-            self.out
+            self.out,
+            self.ceiling
         )
+    }
+}
+
+impl Limited for Writing {
+    fn sizes(&self) -> Vec<usize> {
+        self.size().into_iter().collect()
+    }
+
+    fn at(&self, ceiling: u32, random: &mut Random) -> Writing {
+        let long = length(random, ceiling, self.out);
+        Writing { ceiling, out: random.pick(&[self.out, long]), ..self.clone() }
     }
 }
 
 impl Writing {
     pub fn new(kind: Kind) -> Writing {
         let record = [0; RECORD_NUMBERS];
-        Writing { kind, record, source: Vec::new(), rows: Vec::new(), body: Vec::new(), out: 0 }
+        let (source, rows, body) = (Vec::new(), Vec::new(), Vec::new());
+        Writing { kind, record, source, rows, body, out: 0, ceiling: HIGHEST_CEILING }
     }
 
-    /// The size of its frame, were there no output to be too short.
+    /// The size of its frame, were there no output to be too short, and no ceiling but the highest.
     pub fn size(&self) -> Option<usize> {
         let input = interface::input(self.kind, &self.record, &self.source, &self.rows, &self.body);
-        frame(&input).ok().map(|frame| frame.len())
+        frame(&input, HIGHEST_CEILING).ok().map(|frame| frame.len())
     }
 
     /// A start and length within the source; an empty one anywhere in it.
@@ -286,20 +312,24 @@ pub fn records(family: &mut Family) {
     for _ in 0..family.inputs {
         let random = &mut family.random;
         let case = Writing::good(random).with_slices(random);
-        family.check(&case);
+        family.check_limited(&case);
     }
+}
+
+/// A record with one ground for a refusal, or several at once.
+pub fn any_grounds(random: &mut Random) -> Writing {
+    let mut case = Writing::good(random);
+    for _ in 0..random.pick(&[1, 1, 2, 2, 3]) {
+        case.fault(random);
+    }
+    case.with_slices(random)
 }
 
 /// One ground for a refusal, or several at once.
 pub fn grounds(family: &mut Family) {
     for _ in 0..family.inputs {
-        let random = &mut family.random;
-        let mut case = Writing::good(random);
-        for _ in 0..random.pick(&[1, 1, 2, 2, 3]) {
-            case.fault(random);
-        }
-        let case = case.with_slices(random);
-        family.check(&case);
+        let case = any_grounds(&mut family.random);
+        family.check_limited(&case);
     }
 }
 
@@ -374,6 +404,6 @@ pub fn largest(family: &mut Family) {
         let exact = case.size().unwrap_or(LARGEST);
         // The last has room for a frame that is too long, so that 27's ground does not hold.
         case.out = random.pick(&[exact, exact, exact - 1, exact + 5, 2 * LARGEST]);
-        family.check(&case);
+        family.check_limited(&case);
     }
 }

@@ -1,7 +1,8 @@
-//! The writer at its borders: outputs of each length around the frame's, frames of around 65,536 bytes, each count of rows, and
-//! keys that are nearly equal.
+//! The writer at its borders: outputs and ceilings of each length around the frame's, frames of around 65,536 bytes and of around
+//! 4,096, each count of rows, and keys that are nearly equal.
 
 use super::writer::{layout, Layout, Writing};
+use crate::ceilings::near;
 use crate::reference::header::{LARGEST, SIZE};
 use crate::reference::interface::VERSION;
 use crate::reference::messages::{Kind, MOST_ROWS};
@@ -75,19 +76,24 @@ impl Writing {
     pub fn with_output(&self, out: usize) -> Writing {
         Writing { out, ..self.clone() }
     }
+
+    pub fn with_ceiling(&self, ceiling: u32, out: usize) -> Writing {
+        Writing { ceiling, ..self.with_output(out) }
+    }
 }
 
-fn has_body(kind: Kind) -> bool {
+pub fn has_body(kind: Kind) -> bool {
     matches!(kind, Kind::Request | Kind::Response | Kind::Data)
 }
 
-/// Outputs from one byte too short to far too long: a writer that first asks whether a bound of the frame's size fits finds the
-/// border of that bound among them.
+/// Outputs from one byte too short to far too long, and ceilings alike: a writer that first asks whether a bound of the frame's
+/// size fits finds the border of that bound among them.
 fn around(family: &mut Family, case: &Writing) {
     let exact = case.size().unwrap();
     let far = if case.record[1] > 5 { exact + 131..exact + 1_000 } else { 0..0 };
-    for out in [0, 1, SIZE - 1, SIZE].into_iter().chain(exact - 1..=exact + 130).chain(far.step_by(7)) {
-        family.check(&case.with_output(out));
+    for length in [0, 1, SIZE - 1, SIZE].into_iter().chain(exact - 1..=exact + 130).chain(far.step_by(7)) {
+        family.check(&case.with_output(length));
+        family.check(&case.with_ceiling(length as u32, if length % 2 == 0 { exact } else { exact + 1_000 }));
     }
 }
 
@@ -138,21 +144,24 @@ fn ways(kind: Kind) -> Vec<Long> {
 impl Writing {
     /// With a frame of so many bytes.
     fn lengthened(mut self, way: Long, total: usize) -> Writing {
-        // From 16,384 to 65,536 a length takes three bytes, so that the frame grows as the content does.
+        // From 16,384 to 65,536 a length takes three bytes, and from 128 on two, so that the frame grows as the content does.
+        let least = if total > LARGEST / 2 { 16_384 } else { 128 };
         let start = self.place(&varied(LARGEST)).0;
         let put = |case: &mut Writing, length: usize| match way {
             Long::Body => case.body = varied(length),
             Long::Field(place) => case.put_span(place, (start, length as u32)),
             Long::Row(place) => (case.rows[place], case.rows[place + 1]) = (start, length as u32),
         };
-        put(&mut self, 16_384);
+        put(&mut self, least);
         let size = self.size().unwrap();
-        put(&mut self, 16_384 + total - size);
+        put(&mut self, least + total - size);
+        debug_assert!(total > LARGEST || self.size() == Some(total));
         self
     }
 }
 
-/// Frames of 65,536 bytes, of 65,537, and of all lengths a little under them, by whatever can be long.
+/// Frames of 65,536 bytes, of 65,537, and of all lengths a little under them, by whatever can be long; and frames at a ceiling, or
+/// one or two bytes from it, where that is the highest or the sensor line's.
 pub fn long_frames(family: &mut Family) {
     for kind in Kind::ALL {
         let rows = if layout(kind).has_rows { 2 } else { 0 };
@@ -160,11 +169,21 @@ pub fn long_frames(family: &mut Family) {
             let case = Writing::full(kind, 1, 3, rows);
             for total in (LARGEST - 130..=LARGEST + 2).chain([LARGEST + SIZE, LARGEST + SIZE + 1]) {
                 let case = case.clone().lengthened(way, total);
-                family.check(&case.with_output(total));
+                family.check_limited(&case.with_output(total));
                 family.check(&case.with_output(total - 1));
                 if total > LARGEST - 3 {
                     family.check(&case.with_output(LARGEST));
                     family.check(&case.with_output(2 * LARGEST));
+                }
+            }
+            for size in [4_096, LARGEST] {
+                for total in size - 2..=size + 2 {
+                    let case = case.clone().lengthened(way, total);
+                    for ceiling in near(size) {
+                        for out in [total - 1, total, total + 2_000] {
+                            family.check(&case.with_ceiling(ceiling, out));
+                        }
+                    }
                 }
             }
         }
@@ -193,11 +212,14 @@ pub fn rows(family: &mut Family) {
     }
 }
 
-/// With an output of the frame's length, of one less, and of more.
+/// With an output of the frame's length, of one less, and of more; at ceilings of the frame's length and next to it too.
 fn all_lengths(family: &mut Family, case: &Writing) {
     let exact = case.size().unwrap_or(100);
     for out in [exact, exact - 1, exact + 1_000] {
-        family.check(&case.with_output(out));
+        family.check_limited(&case.with_output(out));
+        for ceiling in near(exact) {
+            family.check(&case.with_ceiling(ceiling, out));
+        }
     }
 }
 
@@ -226,7 +248,7 @@ pub fn keys(family: &mut Family) {
             let kind = WITH_ROWS[(length + place) % WITH_ROWS.len()];
             for count in [2, 3, 16, MOST_ROWS] {
                 let case = nearly_equal(kind, count, length, place);
-                family.check(&case.with_output(case.size().unwrap()));
+                family.check_limited(&case.with_output(case.size().unwrap()));
                 for (earlier, later) in [(0, 1), (0, count - 1), (count / 2 - 1, count - 1), (count - 2, count - 1)] {
                     let mut equal = case.clone();
                     let start = case.rows[4 * earlier] as usize;
@@ -234,7 +256,7 @@ pub fn keys(family: &mut Family) {
                     if place % 2 == 1 {
                         equal.rows[4 * later] = equal.place(&case.source[start..start + length]).0;
                     }
-                    family.check(&equal.with_output(LARGEST));
+                    family.check_limited(&equal.with_output(LARGEST));
                 }
             }
         }

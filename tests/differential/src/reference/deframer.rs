@@ -1,6 +1,6 @@
 //! "Cutting": a call of the cutter, the end verdict, and the uncut reading of a whole stream.
 
-use super::header::{first, judge, LARGEST, SIZE};
+use super::header::{first, in_range, judge, SIZE};
 
 /// "The state is a count of held bytes and a refusal number (0 for none)." "Fresh means 0 and 0."
 #[derive(Clone, Copy, Debug, Default, PartialEq, Eq)]
@@ -25,10 +25,10 @@ pub struct Step {
     pub taken: usize,
 }
 
-/// "A state is known if .."
-fn known(state: State, buffer: &[u8]) -> bool {
+/// "A state is known if ..", by the judge at the ceiling of this call: the state has none.
+fn known(state: State, buffer: &[u8], ceiling: u32) -> bool {
     let State { held, error } = state;
-    let judged = judge(&buffer[..SIZE]);
+    let judged = judge(&buffer[..SIZE], ceiling);
     match error {
         // "it holds under 16 bytes with number 0; or holds 16 or more with number 0, its first 16 judge good and their total
         // exceeds the count"
@@ -39,11 +39,14 @@ fn known(state: State, buffer: &[u8]) -> bool {
     }
 }
 
-/// 1, "buffer under 65,536 bytes", then 2, "state not known"; 0 for neither.
-fn misuse(state: State, buffer: &[u8]) -> u32 {
-    if buffer.len() < LARGEST {
+/// 41, "ceiling outside the range, before all others", then 1, where "A buffer need only be as long as the ceiling", then 2, "state
+/// not known"; 0 for none.
+fn misuse(state: State, buffer: &[u8], ceiling: u32) -> u32 {
+    if !in_range(ceiling) {
+        41
+    } else if buffer.len() < ceiling as usize {
         1
-    } else if !known(state, buffer) {
+    } else if !known(state, buffer, ceiling) {
         2
     } else {
         0
@@ -51,11 +54,12 @@ fn misuse(state: State, buffer: &[u8]) -> u32 {
 }
 
 /// A call of the cutter. "Cutter 1, 2, a held refusal, then 3 to 8 rising", where "8 is no longer given".
-pub fn deframe(state: State, buffer: &mut [u8], piece: &[u8]) -> Step {
+pub fn deframe(state: State, buffer: &mut [u8], ceiling: u32, piece: &[u8]) -> Step {
     let refused = |error| Step { answer: Answer::Refused(error), next: state, taken: 0 };
-    let misuse = misuse(state, buffer);
+    let misuse = misuse(state, buffer, ceiling);
     if misuse != 0 {
-        return refused(misuse); // "1 and 2 return the state as given and take nothing."
+        // "1 and 2 return the state as given and take nothing."; 41 "with the state as given and nothing taken"
+        return refused(misuse);
     }
     if state.error != 0 {
         return refused(state.error); // "later calls repeat the number and take nothing"
@@ -68,7 +72,7 @@ pub fn deframe(state: State, buffer: &mut [u8], piece: &[u8]) -> Step {
         buffer[held - 1] = *byte;
         // "The header is judged when its 16th byte arrives, never sooner."
         if held == SIZE {
-            let error = judge(&buffer[..SIZE]);
+            let error = judge(&buffer[..SIZE], ceiling);
             if error != 0 {
                 return Step { answer: Answer::Refused(error), next: State { held, error }, taken };
             }
@@ -90,8 +94,8 @@ pub enum End {
 }
 
 /// "The end verdict, asked with state and buffer, is clean (nothing held), short with the count held, or the refusal."
-pub fn finish(state: State, buffer: &[u8]) -> End {
-    let misuse = misuse(state, buffer);
+pub fn finish(state: State, buffer: &[u8], ceiling: u32) -> End {
+    let misuse = misuse(state, buffer, ceiling);
     if misuse != 0 {
         End::Refused(misuse)
     } else if state.error != 0 {
@@ -109,8 +113,10 @@ fn clean_or_short(count: usize) -> End {
     }
 }
 
-/// The uncut reading of a whole stream: its frames and its end. Each frame is read by `reader::read`.
-pub fn uncut(stream: &[u8]) -> (Vec<&[u8]>, End) {
+/// The uncut reading of a whole stream: its frames and its end. Each frame is read by `reader::read`. "one more premise, the same
+/// ceiling within that range throughout, for the uncut reading too"
+pub fn uncut(stream: &[u8], ceiling: u32) -> (Vec<&[u8]>, End) {
+    assert!(in_range(ceiling));
     let mut frames = Vec::new();
     let mut rest = stream; // "It starts at the first byte."
     loop {
@@ -119,7 +125,7 @@ pub fn uncut(stream: &[u8]) -> (Vec<&[u8]>, End) {
             return (frames, clean_or_short(rest.len()));
         }
         // "If the judge refuses the next 16, it stops with that number, whatever follows."
-        let error = judge(&rest[..SIZE]);
+        let error = judge(&rest[..SIZE], ceiling);
         if error != 0 {
             return (frames, End::Refused(error));
         }

@@ -1,10 +1,20 @@
-//! "The 16 bytes", of which the last two are source document 002's: "byte 15 the protocol version and only byte 16 reserved".
+//! "The 16 bytes", of which the last two are source document 002's: "byte 15 the protocol version and only byte 16 reserved"; and
+//! the ceiling for their total.
 
 /// The length of a fixed header.
 pub const SIZE: usize = 16;
 
-/// The largest total.
+/// The largest total under any ceiling.
 pub const LARGEST: usize = 65_536;
+
+/// "The header judge is now told a ceiling, from 16 to 65,536"
+pub const LOWEST_CEILING: u32 = SIZE as u32;
+pub const HIGHEST_CEILING: u32 = LARGEST as u32;
+
+/// Whether a ceiling is none of 41's: "ceiling outside the range, before all others".
+pub fn in_range(ceiling: u32) -> bool {
+    (LOWEST_CEILING..=HIGHEST_CEILING).contains(&ceiling)
+}
 
 pub const UNARY: u8 = 0;
 pub const STREAM: u8 = 1;
@@ -36,15 +46,15 @@ impl FixedHeader {
     }
 
     /// "3-8 | header judge | magic; data type; stream type; total; header size; reserved" without the last: "Readers accept all
-    /// versions". 0 for a good header.
-    pub fn error(&self) -> u32 {
+    /// versions". "1, 6 and 19 speak of the ceiling". 0 for a good header.
+    pub fn error(&self, ceiling: u32) -> u32 {
         if self.magic != 0x0930 {
             3
         } else if self.data_type != UNARY && self.data_type != STREAM {
             4
         } else if self.data_type == STREAM && !(1..=4).contains(&self.stream_type) {
             5
-        } else if !(SIZE..=LARGEST).contains(&self.total) {
+        } else if !(SIZE..=ceiling as usize).contains(&self.total) {
             6
         } else if self.header_size > self.largest_header_size() {
             7
@@ -63,10 +73,13 @@ impl FixedHeader {
     }
 }
 
-/// The judge of a fixed header. "Order: judge 9, then 3 to 8", where "8 is no longer given".
-pub fn judge(bytes: &[u8]) -> u32 {
+/// The judge of a fixed header. "Order: judge 9, then 3 to 8", where "8 is no longer given" and 41 is "before all others".
+pub fn judge(bytes: &[u8], ceiling: u32) -> u32 {
+    if !in_range(ceiling) {
+        return 41;
+    }
     match bytes.try_into() {
-        Ok(header) => FixedHeader::of(header).error(),
+        Ok(header) => FixedHeader::of(header).error(ceiling),
         Err(_) => 9,
     }
 }

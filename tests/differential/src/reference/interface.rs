@@ -56,13 +56,13 @@ pub struct Removed {
     pub job: Job,
 }
 
-pub fn header_check(bytes: &[u8]) -> u32 {
-    header::judge(bytes)
+pub fn header_check(bytes: &[u8], ceiling: u32) -> u32 {
+    header::judge(bytes, ceiling)
 }
 
 /// "0 unary, 1 stream", "1 Init, 2 Data, 3 Feedback, 4 Close; ignored in unary": the type is the stream type, 0 for unary.
-pub fn header_parse(bytes: &[u8]) -> Parsed {
-    match header::judge(bytes) {
+pub fn header_parse(bytes: &[u8], ceiling: u32) -> Parsed {
+    match header::judge(bytes, ceiling) {
         0 => {
             let FixedHeader { data_type, stream_type, total, header_size, id, version, .. } = header::first(bytes);
             let frame_type = u32::from(data_type * stream_type);
@@ -72,8 +72,8 @@ pub fn header_parse(bytes: &[u8]) -> Parsed {
     }
 }
 
-pub fn deframe(state: State, buffer: &mut [u8], piece: &[u8]) -> Deframed {
-    let step = deframer::deframe(state, buffer, piece);
+pub fn deframe(state: State, buffer: &mut [u8], ceiling: u32, piece: &[u8]) -> Deframed {
+    let step = deframer::deframe(state, buffer, ceiling, piece);
     let (error, size) = match step.answer {
         Answer::Frame(size) => (0, size),
         Answer::More => (0, 0),
@@ -82,8 +82,12 @@ pub fn deframe(state: State, buffer: &mut [u8], piece: &[u8]) -> Deframed {
     Deframed { error, next: step.next, taken: step.taken, size }
 }
 
-pub fn finish(state: State, buffer: &[u8]) -> Finished {
-    match deframer::finish(state, buffer) {
+pub fn finish(state: State, buffer: &[u8], ceiling: u32) -> Finished {
+    finished(deframer::finish(state, buffer, ceiling))
+}
+
+pub fn finished(end: End) -> Finished {
+    match end {
         End::Clean => Finished { error: 0, short_by: 0 },
         End::Short(held) => Finished { error: 0, short_by: held },
         End::Refused(error) => Finished { error, short_by: 0 },
@@ -91,9 +95,9 @@ pub fn finish(state: State, buffer: &[u8]) -> Finished {
 }
 
 /// Reads a frame as a kind. "A refused record or job is all zero"
-pub fn read(kind: Kind, frame: &[u8], rows: &mut [u32], record: &mut Numbers) -> u32 {
+pub fn read(kind: Kind, frame: &[u8], ceiling: u32, rows: &mut [u32], record: &mut Numbers) -> u32 {
     *record = [0; RECORD_NUMBERS];
-    let reading = match reader::read(kind, frame, rows) {
+    let reading = match reader::read(kind, frame, ceiling, rows) {
         Ok(reading) => reading,
         Err(error) => return error,
     };
@@ -118,8 +122,16 @@ pub fn input<'a>(kind: Kind, record: &Numbers, source: &'a [u8], rows: &'a [u32]
 }
 
 /// Writes the frame of a record. "a refused write counts 0 bytes"
-pub fn write(kind: Kind, record: &Numbers, source: &[u8], rows: &[u32], body: &[u8], out: &mut [u8]) -> Written {
-    match writer::write(&input(kind, record, source, rows, body), out) {
+pub fn write(
+    kind: Kind,
+    record: &Numbers,
+    source: &[u8],
+    rows: &[u32],
+    body: &[u8],
+    out: &mut [u8],
+    ceiling: u32,
+) -> Written {
+    match writer::write(&input(kind, record, source, rows, body), out, ceiling) {
         Ok(size) => Written { error: 0, size },
         Err(error) => Written { error, size: 0 },
     }

@@ -1,7 +1,7 @@
 //! Reading a frame as a kind.
 
 use super::fields::{Value, Walk};
-use super::header::{first, judge, FixedHeader, SIZE, UNARY};
+use super::header::{first, in_range, judge, FixedHeader, SIZE, UNARY};
 use super::messages::{
     Close, Feedback, Init, Kind, Message, Request, RequestMeta, Response, ResponseMeta, Row, Span, MOST_ROWS,
     ROW_NUMBERS,
@@ -22,15 +22,19 @@ pub struct Reading {
 
 /// Reads a frame as a kind.
 ///
-/// "Reader: 16; fewer than 16 bytes is 9; 3 to 8; 9; then fields from left to right, .. 15 last", where "8 is no longer given".
-pub fn read(kind: Kind, frame: &[u8], rows: &mut [u32]) -> Result<Reading, Refusal> {
+/// "Reader: 16; fewer than 16 bytes is 9; 3 to 8; 9; then fields from left to right, .. 15 last", where "8 is no longer given" and
+/// 41 is "before all others".
+pub fn read(kind: Kind, frame: &[u8], ceiling: u32, rows: &mut [u32]) -> Result<Reading, Refusal> {
+    if !in_range(ceiling) {
+        return Err(41);
+    }
     if rows.len() < ROW_NUMBERS {
         return Err(16);
     }
     if frame.len() < SIZE {
         return Err(9);
     }
-    let error = judge(&frame[..SIZE]);
+    let error = judge(&frame[..SIZE], ceiling);
     if error != 0 {
         return Err(error);
     }

@@ -1,17 +1,22 @@
-//! The reference itself: document 01's checked examples, document 02's last two bytes of the fixed header, and the frames that
-//! protoc wrote (crates/test_records, crates/test_writes).
+//! The reference itself: document 01's checked examples at 65,536, document 02's last two bytes of the fixed header and its
+//! ceilings, and the frames that protoc wrote (crates/test_records, crates/test_writes).
 
 use super::deframer::{deframe, finish, uncut, Answer, End, State};
-use super::header::{judge, LARGEST};
-use super::interface::{header_parse, read, write, Numbers, FIRST_FIELD, RECORD_NUMBERS, VERSION};
+use super::header::{self, HIGHEST_CEILING, LARGEST};
+use super::interface::{self, read, write, Numbers, Parsed, Written, FIRST_FIELD, RECORD_NUMBERS, VERSION};
 use super::messages::Kind;
 use super::queue::{Job, Queue};
+use super::{IN_USE, RETIRED};
 use crate::generate::frame;
+
+fn judge(bytes: &[u8]) -> u32 {
+    header::judge(bytes, HIGHEST_CEILING)
+}
 
 /// The error code and the record of a frame.
 fn record(kind: Kind, frame: &[u8]) -> (u32, Numbers) {
     let mut record = [9; RECORD_NUMBERS];
-    let error = read(kind, frame, &mut [9; 256], &mut record);
+    let error = read(kind, frame, HIGHEST_CEILING, &mut [9; 256], &mut record);
     (error, record)
 }
 
@@ -31,7 +36,7 @@ fn with(changes: &[(usize, u8)]) -> [u8; 16] {
 
 #[test]
 fn headers() {
-    assert_eq!(uncut(&[]), (vec![], End::Clean));
+    assert_eq!(uncut(&[], HIGHEST_CEILING), (vec![], End::Clean));
     assert_eq!(judge(&ID_7), 0);
     assert_eq!(record(Kind::Request, &ID_7), (0, std::array::from_fn(|place| if place == 0 { 7 } else { 0 })));
     assert_eq!(judge(&with(&[(7, 15)])), 6);
@@ -49,24 +54,25 @@ fn last_two_bytes() {
     for (byte_15, byte_16) in [(1, 0), (0, 0xFF), (1, 0xFF), (0xFF, 1)] {
         let header = with(&[(14, byte_15), (15, byte_16)]);
         assert_eq!(judge(&header), 0);
-        assert_eq!(header_parse(&header).version, byte_15);
+        assert_eq!(interface::header_parse(&header, HIGHEST_CEILING).version, byte_15);
         let (error, record) = record(Kind::Request, &header);
         assert_eq!((error, record[0], record[VERSION]), (0, 7, byte_15.into()));
         // "the writer writes the version given and 0 in byte 16"
         let mut out = [0xA5; 16];
-        assert_eq!(write(Kind::Request, &record, &header, &[], &[], &mut out).size, 16);
+        assert_eq!(write(Kind::Request, &record, &header, &[], &[], &mut out, HIGHEST_CEILING).size, 16);
         assert_eq!(out, with(&[(14, byte_15)]));
     }
     // "A refused record .. is all zero"
     let refused = with(&[(7, 15), (14, 1)]);
-    assert_eq!((header_parse(&refused).version, record(Kind::Request, &refused)), (0, (6, [0; RECORD_NUMBERS])));
+    assert_eq!(interface::header_parse(&refused, HIGHEST_CEILING).version, 0);
+    assert_eq!(record(Kind::Request, &refused), (6, [0; RECORD_NUMBERS]));
     // A frame of 24 bytes and version 1: "a state that holds 8 is not known"; one that holds 20 of its bytes is.
     let mut buffer = vec![0; LARGEST];
     buffer[..16].copy_from_slice(&with(&[(7, 24), (14, 1)]));
-    assert_eq!(finish(State { held: 20, error: 0 }, &buffer), End::Short(20));
+    assert_eq!(finish(State { held: 20, error: 0 }, &buffer, HIGHEST_CEILING), End::Short(20));
     let state = State { held: 16, error: 8 };
-    assert_eq!(finish(state, &buffer), End::Refused(2));
-    let step = deframe(state, &mut buffer, &[1]);
+    assert_eq!(finish(state, &buffer, HIGHEST_CEILING), End::Refused(2));
+    let step = deframe(state, &mut buffer, HIGHEST_CEILING, &[1]);
     assert_eq!((step.answer, step.next, step.taken), (Answer::Refused(2), state, 0));
 }
 
@@ -89,13 +95,102 @@ fn messages() {
 #[test]
 fn listing() {
     let bytes = [frame(Kind::Feedback, 5, &[0x08, 0xAC, 0x02], &[]), vec![0x09]].concat();
-    let (frames, end) = uncut(&bytes);
+    let (frames, end) = uncut(&bytes, HIGHEST_CEILING);
     assert_eq!((frames.len(), frames[0].len(), end), (1, 19, End::Short(1)));
     // "a stream of that one byte must end short"
     let mut buffer = vec![0; LARGEST];
-    let step = deframe(State::default(), &mut buffer, &[0x30]);
+    let step = deframe(State::default(), &mut buffer, HIGHEST_CEILING, &[0x30]);
     assert_eq!((step.answer, step.taken), (Answer::More, 1));
-    assert_eq!(finish(step.next, &buffer), End::Short(1));
+    assert_eq!(finish(step.next, &buffer, HIGHEST_CEILING), End::Short(1));
+}
+
+/// "The header judge is now told a ceiling, from 16 to 65,536"; "41 ceiling outside the range, before all others"
+#[test]
+fn ceilings() {
+    let of_size = |size: u32| {
+        let mut header = ID_7;
+        header[4..8].copy_from_slice(&size.to_be_bytes());
+        header
+    };
+    for (ceiling, total, error) in [
+        (15, 16, 41),
+        (16, 15, 6),
+        (16, 16, 0),
+        (16, 17, 6),
+        (4_096, 4_096, 0),
+        (4_096, 4_097, 6),
+        (65_535, 65_536, 6),
+        (65_536, 65_536, 0),
+        (65_536, 65_537, 6),
+        (65_537, 65_537, 41),
+    ] {
+        assert_eq!(header::judge(&of_size(total), ceiling), error, "{ceiling} {total}");
+    }
+    for ceiling in [0, 15, 65_537, u32::MAX] {
+        assert_eq!(header::judge(&[], ceiling), 41);
+        assert_eq!(interface::header_parse(&ID_7, ceiling), Parsed { error: 41, ..Parsed::default() });
+        // "with the state as given and nothing taken"
+        let state = State { held: 99, error: 8 };
+        let step = deframe(state, &mut [], ceiling, &ID_7);
+        assert_eq!((step.answer, step.next, step.taken), (Answer::Refused(41), state, 0));
+        assert_eq!(finish(state, &[], ceiling), End::Refused(41));
+        let (mut rows, mut record) = ([9; 255], [9; RECORD_NUMBERS]);
+        assert_eq!(read(Kind::Request, &[], ceiling, &mut rows, &mut record), 41);
+        assert_eq!((rows, record), ([9; 255], [0; RECORD_NUMBERS]));
+        record[1] = 65;
+        let mut out = [9; 3];
+        let written = write(Kind::Feedback, &record, &[], &[], &[1], &mut out, ceiling);
+        assert_eq!((written, out), (Written { error: 41, size: 0 }, [9; 3]));
+    }
+}
+
+/// "A sensor line should never send more than 4,096 bytes, and its buffer should be that small."
+#[test]
+fn sensor_line() {
+    let largest = frame(Kind::Data, 7, &[], &[1; 4_080]);
+    let mut buffer = vec![0xA5; 4_097];
+    let step = deframe(State::default(), &mut buffer[..4_096], 4_096, &largest);
+    assert_eq!((step.answer, step.taken, buffer[4_096]), (Answer::Frame(4_096), 4_096, 0xA5));
+    assert_eq!(buffer[..4_096], largest);
+    assert_eq!(deframe(State::default(), &mut buffer[..4_095], 4_096, &largest).answer, Answer::Refused(1));
+    assert_eq!(read(Kind::Data, &largest, 4_096, &mut [9; 256], &mut [9; RECORD_NUMBERS]), 0);
+    // 6 where the total is over the ceiling, 9 where it is not and the length is another
+    let longer = frame(Kind::Data, 7, &[], &[1; 4_081]);
+    assert_eq!(read(Kind::Data, &longer, 4_096, &mut [9; 256], &mut [9; RECORD_NUMBERS]), 6);
+    let longer = [&largest[..], &[1]].concat();
+    assert_eq!(read(Kind::Data, &longer, 4_096, &mut [9; 256], &mut [9; RECORD_NUMBERS]), 9);
+    // The output need only hold the frame, and 19 is before 27.
+    let record = [0; RECORD_NUMBERS];
+    let mut write = |body: usize, out: usize| {
+        let answer = write(Kind::Data, &record, &[], &[], &vec![1; body], &mut buffer[..out], 4_096);
+        (answer.error, answer.size)
+    };
+    assert_eq!([write(4_080, 4_096), write(4_080, 4_095)], [(0, 4_096), (27, 0)]);
+    assert_eq!([write(4_081, 4_097), write(4_081, 0)], [(19, 0), (19, 0)]);
+    assert_eq!(write(4, 20), (0, 20));
+}
+
+/// A state is known by the judge at the ceiling of the call.
+#[test]
+fn another_ceiling() {
+    let bytes = frame(Kind::Data, 7, &[], &[1; 4_984]);
+    let mut buffer = vec![0; LARGEST];
+    let held = deframe(State::default(), &mut buffer, HIGHEST_CEILING, &bytes[..20]).next;
+    assert_eq!(finish(held, &buffer, 5_000), End::Short(20));
+    assert_eq!(finish(held, &buffer, 4_999), End::Refused(2));
+    assert_eq!(deframe(held, &mut buffer, 4_999, &bytes[20..]).answer, Answer::Refused(2));
+    assert_eq!(deframe(held, &mut buffer, 5_000, &bytes[20..]).answer, Answer::Frame(5_000));
+    let refused = deframe(State::default(), &mut buffer, 4_999, &bytes);
+    assert_eq!((refused.answer, refused.taken), (Answer::Refused(6), 16));
+    assert_eq!(refused.next, State { held: 16, error: 6 });
+    assert_eq!(finish(refused.next, &buffer, 16), End::Refused(6));
+    assert_eq!(finish(refused.next, &buffer, 5_000), End::Refused(2));
+    assert_eq!((uncut(&bytes, 4_999).1, uncut(&bytes, 5_000).1), (End::Refused(6), End::Clean));
+}
+
+#[test]
+fn numbers() {
+    assert!(IN_USE.is_sorted() && IN_USE.iter().all(|number| !RETIRED.contains(number)));
 }
 
 #[test]
@@ -167,7 +262,7 @@ fn hex(frame: &[u8], start: u32, length: u32) -> String {
 fn printed(kind: Kind, frame: &[u8], lent: usize) -> String {
     let before: Vec<u32> = (0..lent as u32).map(|place| 1 << 31 | place).collect();
     let (mut rows, mut n) = (before.clone(), [9; RECORD_NUMBERS]);
-    let error = read(kind, frame, &mut rows, &mut n);
+    let error = read(kind, frame, HIGHEST_CEILING, &mut rows, &mut n);
     let mut lines = Vec::new();
     for (name, part) in [("header", 2), ("body", 4), ("attachment", 6)] {
         lines.push(format!("{name} {} {}", n[part + 1], hex(frame, n[part], n[part + 1])));
@@ -252,12 +347,12 @@ fn frames_of_protoc_written_again() {
     let (mut whole, mut equal) = (0, 0);
     for (label, kind, _, frame) in cases() {
         let (mut rows, mut n) = ([9; 256], [9; RECORD_NUMBERS]);
-        if read(kind, &frame, &mut rows, &mut n) != 0 {
+        if read(kind, &frame, HIGHEST_CEILING, &mut rows, &mut n) != 0 {
             continue;
         }
         let mut out = vec![0; LARGEST];
         let body = &frame[n[4] as usize..][..n[5] as usize];
-        let written = write(kind, &n, &frame, &rows, body, &mut out);
+        let written = write(kind, &n, &frame, &rows, body, &mut out, HIGHEST_CEILING);
         assert_eq!(written.error, 0, "{label}");
         whole += 1;
         equal += usize::from(out[..written.size] == frame);
@@ -284,7 +379,8 @@ fn writes_of_protoc() {
         record[FIRST_FIELD..VERSION].copy_from_slice(&fields);
         record[VERSION] = head[10];
         let mut out = vec![0xA5; head[4] as usize];
-        let written = write(Kind::ALL[head[7] as usize], &record, &source, &rows, &body, &mut out);
+        let kind = Kind::ALL[head[7] as usize];
+        let written = write(kind, &record, &source, &rows, &body, &mut out, HIGHEST_CEILING);
         let answer = match written.error {
             0 => format!("frame {} {}", written.size, hex(&out, 0, written.size as u32)),
             error => format!("refused {error}"),

@@ -1,6 +1,6 @@
 //! Writing the frame of a record.
 
-use super::header::{LARGEST, SIZE};
+use super::header::{in_range, SIZE};
 use super::messages::{Init, Kind, Message, RequestMeta, ResponseMeta, Row, Span, MOST_ROWS};
 use super::Refusal;
 
@@ -17,9 +17,11 @@ pub struct Input<'a> {
 
 /// Writes the frame to the start of `out` and gives its size. "Bytes past the frame stay as they were."
 ///
-/// The order is document 01's, without the number that is retired: 18's first three grounds, 17, 18's others, 15, 19, 27.
-pub fn write(input: &Input, out: &mut [u8]) -> Result<usize, Refusal> {
-    let frame = frame(input)?;
+/// The order is document 01's, without the number that is retired: 18's first three grounds, 17, 18's others, 15, 19, 27; and 41 is
+/// "before all others".
+pub fn write(input: &Input, out: &mut [u8], ceiling: u32) -> Result<usize, Refusal> {
+    let frame = frame(input, ceiling)?;
+    // "output shorter than the frame", whatever the ceiling
     if frame.len() > out.len() {
         return Err(27);
     }
@@ -28,7 +30,10 @@ pub fn write(input: &Input, out: &mut [u8]) -> Result<usize, Refusal> {
 }
 
 /// The whole frame, or the refusal that comes before the output is looked at.
-pub fn frame(input: &Input) -> Result<Vec<u8>, Refusal> {
+pub fn frame(input: &Input, ceiling: u32) -> Result<Vec<u8>, Refusal> {
+    if !in_range(ceiling) {
+        return Err(41);
+    }
     let Input { row_count, message, source, body, .. } = *input;
     let kind = message.kind();
 
@@ -67,8 +72,8 @@ pub fn frame(input: &Input) -> Result<Vec<u8>, Refusal> {
 
     let header = header_message(input);
     let total = SIZE + header.len() + body.len();
-    if total > LARGEST {
-        return Err(19);
+    if total > ceiling as usize {
+        return Err(19); // "1, 6 and 19 speak of the ceiling"
     }
     Ok([&fixed_header(input, total, header.len()), header.as_slice(), body].concat())
 }

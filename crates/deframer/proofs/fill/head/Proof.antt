@@ -6,13 +6,14 @@ use Prim.Native.Nat.{_-_, _≤_}
 use lib.ListN.{length, take, drop}
 use lib.Seq.{length-take-le}
 use Rattle.fixed_header.proofs.Codes.{good-total, declared}
-use Rattle.deframer.proofs.Advance.{begins, head-short, head-bad, head-room, head-on}
+use Rattle.deframer.specs.Deframe.{stream}
+use Rattle.deframer.proofs.Advance.{begins, content-moved, head-short, head-bad, head-room, head-on}
 use Rattle.deframer.proofs.Lists.{stream-length}
 use Rattle.deframer.proofs.fill.head.Statement.{statement}
 use Rattle.deframer.proofs.fill.head.Tie as tie
 
-sub-t12 : tie.Need-sub-t12
-sub-t12 c =
+sub-t13 : tie.Need-sub-t13
+sub-t13 c =
     let at-fill = c .before .before .before in
     let args = at-fill .before .before .before .before .args in
     omega (arith, at-fill .fill .ensures .0, stream-length (args .buffer .now) (args .piece .now) (args .held) (omega arith))
@@ -23,7 +24,7 @@ returns c =
     let filled = at-fill .fill .ensures in
     let start = at-fill .before .before .before .before in
     let args = start .args in
-    head-short (args .buffer .now) (args .piece .now) _ (args .held) _ (start .pre .0) (start .pre .1) (filled .0) (filled .1)
+    head-short (args .ceiling) (args .buffer .now) (args .piece .now) _ (args .held) _ (omega arith) (start .pre .2) (filled .0) (filled .1)
     (c .if1 .taken)
 
 slice-aggregate-check-header : tie.Need-slice-aggregate-check-header
@@ -38,7 +39,7 @@ returns-2 c =
     let filled = at-fill .fill .ensures in
     let start = at-fill .before .before .before .before in
     let args = start .args in
-    head-bad (args .buffer .now) (args .piece .now) _ (args .held) _ (start .pre .0) (start .pre .1) (filled .0) (filled .1)
+    head-bad (args .ceiling) (args .buffer .now) (args .piece .now) _ (args .held) _ (omega arith) (start .pre .2) (filled .0) (filled .1)
     (at-if1 .if1 .left) _
     (c .before .check-header .ensures) (c .if2 .taken)
 
@@ -52,36 +53,42 @@ content-requires c κs =
     let start = at-fill .before .before .before .before in
     let args = start .args in
     let ys = at-fill .fill .last .0 in
-    let big : 65536 ≤ length ys = omega (arith, at-fill .fill .kept .0) in
+    let big : args .ceiling ≤ length ys = omega (arith, at-fill .fill .kept .0) in
     let good = sym (at-if2 .before .check-header .ensures) ∙ at-if2 .if2 .left in
     let is = at-size .declared-size .ensures ∙ declared ys (omega arith) in
-    let rest = drop (16 - args .held) (args .piece .now) in
-    let begun = begins ys rest 16 (at-size .declared-size .result) (omega arith) (omega arith) good is in (
-      big,
-      begun .0,
-      begun .1,
-      begun .2,
-      omega (arith, is, good-total (take 16 ys) good),
+    let total = good-total (args .ceiling) (take 16 ys) good in (
+      omega (arith, is, total),
+      omega (arith, is, total),
       omega arith,
-      head-room (args .buffer .now) (args .piece .now) _ (args .held) _ (start .pre .0) (start .pre .1) (filled .0) (filled .1)
-          (at-if1 .if1 .left),
+      head-room (args .ceiling) (args .buffer .now) (args .piece .now) _ (args .held) _ (omega arith) (start .pre .2)
+          (filled .0) (filled .1) (at-if1 .if1 .left),
     )
 
 returns-3 : tie.Need-returns-3
 returns-3 c =
     let at-content = c .before .before in
-    let at-if1 = at-content .before .before .before .before .before .before .before in
+    let at-size = at-content .before .before in
+    let at-if2 = at-size .before .before in
+    let at-if1 = at-if2 .before .before .before in
     let at-fill = at-if1 .before .before .before in
     let filled = at-fill .fill .ensures in
     let start = at-fill .before .before .before .before in
     let args = start .args in
-    head-on (args .buffer .now) (args .piece .now) _ (args .held) _ (start .pre .0) (start .pre .1) (filled .0) (filled .1)
+    let ys = at-fill .fill .last .0 in
+    let rest = drop (16 - args .held) (args .piece .now) in
+    let size = at-size .declared-size .result in
+    let big : 16 ≤ length ys = omega (arith, at-fill .fill .kept .0) in
+    let good = sym (at-if2 .before .check-header .ensures) ∙ at-if2 .if2 .left in
+    let is = at-size .declared-size .ensures ∙ declared ys big in
+    let begun = begins (args .ceiling) ys rest 16 size (omega arith) big good is in
+    head-on (args .ceiling) (args .buffer .now) (args .piece .now) _ (args .held) _ (omega arith) (start .pre .2) (filled .0) (filled .1)
     (at-if1 .if1 .left) _ _
-    (at-content .content .ensures)
+    (content-moved (args .ceiling) size _ _ ys (stream 16 ys rest) (args .held) (begun .0) (begun .1) (begun .2)
+    (at-content .content .ensures))
 
 pub head-spec : {M : Type 1} → statement M
 head-spec =
     tie.close
-    (tie.spec (λ c κs. search needs) sub-t12 (λ c. search needs) returns (λ c. search needs) slice-aggregate-check-header
+    (tie.spec (λ c κs. search needs) sub-t13 (λ c. search needs) returns (λ c. search needs) slice-aggregate-check-header
     (λ c κs. search needs) (λ c. search needs) (λ c. search needs) returns-2 (λ c κs. search needs) content-requires (λ c. search needs)
     returns-3)

@@ -12,7 +12,7 @@ use Rattle.deframer.proofs.fill.known.Tie as tie
 returns : tie.Need-returns
 returns c =
     let args = c .before .before .before .args in
-    sym (known-short (args .state) (args .buffer .now) (c .before .if1 .taken) (c .if2 .taken))
+    sym (known-short (args .ceiling) (args .state) (args .buffer .now) (c .before .if1 .taken) (c .if2 .taken))
 
 returns-2 : tie.Need-returns-2
 returns-2 c =
@@ -20,12 +20,12 @@ returns-2 c =
     let at-if1 = at-if2 .before in
     let args = at-if1 .before .before .args in
     let by-held = c .frame-size .ensures .1 (at-if2 .if2 .left) (omega arith) in
-    sym (known-by (args .state) (args .buffer .now) (at-if1 .if1 .taken) by-held)
+    sym (known-by (args .ceiling) (args .state) (args .buffer .now) (at-if1 .if1 .taken) by-held)
 
 returns-3 : tie.Need-returns-3
 returns-3 c =
     let args = c .before .before .before .args in
-    sym (unknown-held (args .state) (args .buffer .now) (c .before .if1 .left) (c .if3 .taken))
+    sym (unknown-held (args .ceiling) (args .state) (args .buffer .now) (c .before .if1 .left) (c .if3 .taken))
 
 slice-aggregate-check-header : tie.Need-slice-aggregate-check-header
 slice-aggregate-check-header c = sym (length-take-le 16 (c .before .before .before .before .args .buffer .now) (omega arith))
@@ -34,9 +34,11 @@ returns-4 : tie.Need-returns-4
 returns-4 c =
     let at-if3 = c .before .before in
     let at-if1 = at-if3 .before in
-    let args = at-if1 .before .before .args in
+    let start = at-if1 .before .before in
+    let args = start .args in
     ap (λ (n : ℕ). eqb n (args .state .error)) (c .check-header .ensures)
-    ∙ sym (known-code (args .state) (args .buffer .now) (at-if1 .if1 .left) (omega arith) (at-if3 .if3 .left))
+    ∙ sym (known-code (args .ceiling) (args .state) (args .buffer .now) (at-if1 .if1 .left) (start .pre .0) (omega arith)
+    (at-if3 .if3 .left))
 
 pub known-spec : {M : Type 1} → statement M
 known-spec =

@@ -1,13 +1,13 @@
 -- The state is not known, or the frame goes on.
-use Prim.Native.Nat.{_-_}
 use mathlib.Core.Path.{ap, _∙_}
 use native.Mathlib.Omega.{arith}
 use borrow.Author.Needs.{needs}
 use borrow.Author.Tests.{lt-ltb}
 use lib.Dec.{ltb}
-use lib.ListN.{take, drop}
+use lib.ListN.{take}
 use Rattle.fixed_header.proofs.Codes.{good-total}
-use Rattle.deframer.proofs.Advance.{begins, call-unknown, call-moves, called-refused, called-moved, from-start}
+use Rattle.deframer.specs.Deframe.{stream}
+use Rattle.deframer.proofs.Advance.{begins, content-moved, call-unknown, call-moves, called-refused, called-moved, from-start}
 use Rattle.deframer.proofs.Known.{known-by}
 use Rattle.deframer.proofs.fill.more.Statement.{statement}
 use Rattle.deframer.proofs.fill.more.Tie as tie
@@ -19,21 +19,18 @@ returns c =
     let st = start .args .state in
     let d = start .args .buffer .now in
     let p = start .args .piece .now in
-    let by-held = at-size .frame-size .ensures .1 (start .pre .1) (omega arith) in
-    called-refused st d p 2 _ (c .refused .ensures)
-    (call-unknown st d p (start .pre .0) (known-by st d (start .pre .2) (by-held ∙ ap (ltb 0) (c .before .if1 .taken))))
+    let most = start .args .ceiling in
+    let by-held = at-size .frame-size .ensures .1 (start .pre .2) (omega arith) in
+    let unknown = known-by most st d (start .pre .3) (by-held ∙ ap (ltb 0) (c .before .if1 .taken)) in
+    called-refused most st d p 2 _ (c .refused .ensures) (call-unknown most st d p (start .pre .0) (start .pre .1) unknown)
 
 content-requires : tie.Need-content-requires
 content-requires c κs =
     let at-size = c .before .before in
     let start = at-size .before .before .before .before in
-    let held = start .args .state .held in
-    let d = start .args .buffer .now in
     let good = at-size .frame-size .ensures .0 (c .before .if1 .left) in
-    let total = good-total (take 16 d) (good .1) in
-    let begun = begins d (drop (held - held) (start .args .piece .now)) held (at-size .frame-size .result) (start .pre .1) (omega arith)
-    (good .1) (good .2) in
-    (omega arith, begun .0, begun .1, begun .2, omega arith, omega arith, omega arith)
+    let total = good-total (start .args .ceiling) (take 16 (start .args .buffer .now)) (good .1) in
+    (omega arith, omega arith, omega arith, omega arith)
 
 returns-2 : tie.Need-returns-2
 returns-2 c =
@@ -43,10 +40,16 @@ returns-2 c =
     let st = start .args .state in
     let d = start .args .buffer .now in
     let p = start .args .piece .now in
-    let by-held = at-size .frame-size .ensures .1 (start .pre .1) (omega arith) in
-    let known = known-by st d (start .pre .2) (by-held ∙ lt-ltb 0 (at-size .frame-size .result) (omega arith)) in
-    called-moved st d p _ _ (call-moves st d p (start .pre .0) known (start .pre .2))
-    (from-start _ _ d p (st .held) (at-content .content .ensures))
+    let most = start .args .ceiling in
+    let size = at-size .frame-size .result in
+    let good = at-size .frame-size .ensures .0 (at-content .before .before .if1 .left) in
+    let total = good-total most (take 16 d) (good .1) in
+    let by-held = at-size .frame-size .ensures .1 (start .pre .2) (omega arith) in
+    let known = known-by most st d (start .pre .3) (by-held ∙ lt-ltb 0 size (omega arith)) in
+    let begun = begins most d p (st .held) size (start .pre .2) (omega arith) (good .1) (good .2) in
+    called-moved most st d p _ _ (call-moves most st d p (start .pre .0) (start .pre .1) known (start .pre .3))
+    (content-moved most size _ _ d (stream (st .held) d p) (st .held) (begun .0) (begun .1) (begun .2)
+    (from-start size _ _ d p (st .held) (at-content .content .ensures)))
 
 pub more-spec : {M : Type 1} → statement M
 more-spec =

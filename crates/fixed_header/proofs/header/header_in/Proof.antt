@@ -13,7 +13,7 @@ returns c =
     rw (
       at-total .before .frame-type .ensures,
       at-total .total .ensures,
-      at-size .header-size .ensures,
+      at-size .header-size .ensures .0,
       at-id .be32 .ensures,
       c .version .ensures,
     )

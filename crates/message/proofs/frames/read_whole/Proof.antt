@@ -1,5 +1,6 @@
 -- A frame of another size or of another kind is refused with 9; any other is whole (`WholeFrames`).
 use borrow.Author.Needs.{needs}
+use Rattle.fixed_header.specs.Header.{maxFrame}
 use Rattle.laws.proofs.Tests.{fails, holds}
 use Rattle.message.proofs.WholeFrames.{size-refused, kind-refused, whole-frame}
 use Rattle.message.proofs.frames.read_whole.Statement.{statement}
@@ -13,7 +14,7 @@ read-whole-spec =
     (λ c.
     let at-if1 = c .before in
     let start = at-if1 .before .before .before .before in
-    size-refused (start .args .kind) (start .args .frame .now) (start .args .rows .now) (start .pre .0) (start .pre .1)
+    size-refused maxFrame (start .args .kind) (start .args .frame .now) (start .args .rows .now) (start .pre .0) (start .pre .1)
     (start .args .header) (start .pre .2) (at-if1 .if1 .taken) (c .refused .ensures))
     (λ c. search needs)
     (λ c. search needs)
@@ -24,7 +25,7 @@ read-whole-spec =
     let at-kind-fits = at-if2 .before in
     let at-if1 = at-kind-fits .before .before .before in
     let start = at-if1 .before .before .before .before in
-    kind-refused (start .args .kind) (start .args .frame .now) (start .args .rows .now) (start .pre .0) (start .pre .1)
+    kind-refused maxFrame (start .args .kind) (start .args .frame .now) (start .args .rows .now) (start .pre .0) (start .pre .1)
     (start .args .header) (start .pre .2) (at-if1 .if1 .left) (fails (at-kind-fits .kind-fits .ensures) (at-if2 .if2 .taken))
     (c .refused2 .ensures))
     (λ c κs.
@@ -33,7 +34,7 @@ read-whole-spec =
     let at-if1 = at-kind-fits .before .before .before in
     let start = at-if1 .before .before .before .before in (
       start .pre .0,
-      whole-frame (start .args .kind) (start .args .frame .now) (start .args .rows .now) (start .pre .0)
+      whole-frame maxFrame (start .args .kind) (start .args .frame .now) (start .args .rows .now) (start .pre .0)
           (start .pre .1) (start .args .header) (start .pre .2) (at-if1 .if1 .left)
           (holds (at-kind-fits .kind-fits .ensures) (at-if2 .if2 .left)),
     ))

@@ -12,9 +12,12 @@ use Rattle.writer.proofs.bounds.message_error.Tie as tie
 returns : tie.Need-returns
 returns c =
     let at-most = c .before .before in
-    let args = at-most .before .before .args in
-    surely (rowsIn (args .count) (args .rows .now)) (args .n .now) (schemaOf (args .kind)) _ _ _ (at-most .message-most .ensures .0)
-    (no-error (16 + at-most .message-most .result + args .body) (args .room) (sym (c .before .size-error .ensures) ∙ c .if1 .taken))
+    let start = at-most .before .before in
+    let args = start .args in
+    surely (rowsIn (args .count) (args .rows .now)) (args .n .now) (schemaOf (args .kind)) _ _ _ _ (start .pre .1)
+    (at-most .message-most .ensures .0)
+    (no-error (args .ceiling) (16 + at-most .message-most .result + args .body) (args .room)
+    (sym (c .before .size-error .ensures) ∙ c .if1 .taken))
 
 pub message-error-spec : {M : Type 1} → statement M
 message-error-spec =

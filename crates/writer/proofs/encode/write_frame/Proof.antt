@@ -12,10 +12,10 @@ returns c =
     let at-error = c .before in
     let start = at-error .before .before .before .before .before in
     let args = start .args in
-    refused-size (args .kind) (args .id) (args .version)
+    refused-size (args .ceiling) (args .kind) (args .id) (args .version)
     (messageIn (args .kind) (args .n .now) (args .count) (args .source .now) (args .rows .now)) (args .body .now) (args .out .now) _
     (of-message (args .kind) (args .n .now) (args .count) (args .source .now) (args .rows .now) (start .pre .1) (start .pre .2)
-    (length (args .body .now)) (length (args .out .now)) (at-error .message-error .ensures))
+    (length (args .body .now)) (length (args .out .now)) (args .ceiling) (at-error .message-error .ensures))
     (c .if1 .taken)
 
 put-frame-requires : tie.Need-put-frame-requires
@@ -24,7 +24,8 @@ put-frame-requires c κs =
     let start = at-error .before .before .before .before .before in
     let args = start .args in
     let fine = ready (args .kind) (args .n .now) (args .count) (args .source .now) (args .rows .now) (start .pre .1) (start .pre .2)
-    (length (args .body .now)) (length (args .out .now)) (at-error .message-error .ensures) (c .before .if1 .left) in
+    (length (args .body .now)) (length (args .out .now)) (args .ceiling) (at-error .message-error .ensures) (start .pre .3)
+    (c .before .if1 .left) in
     (start .pre .0, start .pre .1, start .pre .2, fine .0, fine .1)
 
 returns-2 : tie.Need-returns-2
@@ -34,10 +35,10 @@ returns-2 c =
     let at-error = at-if .before in
     let start = at-error .before .before .before .before .before in
     let args = start .args in
-    framed (args .kind) (args .id) (args .version)
+    framed (args .ceiling) (args .kind) (args .id) (args .version)
     (messageIn (args .kind) (args .n .now) (args .count) (args .source .now) (args .rows .now)) (args .body .now) (args .out .now) _
     (of-message (args .kind) (args .n .now) (args .count) (args .source .now) (args .rows .now) (start .pre .1) (start .pre .2)
-    (length (args .body .now)) (length (args .out .now)) (at-error .message-error .ensures))
+    (length (args .body .now)) (length (args .out .now)) (args .ceiling) (at-error .message-error .ensures))
     (at-if .if1 .left) (at-frame .put-frame .ensures)
 
 pub write-frame-spec : {M : Type 1} → statement M
