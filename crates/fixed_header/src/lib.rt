@@ -1,6 +1,8 @@
 // The fixed header of a tRPC frame, its first 16 bytes, both ways: checked, read and written.
 //
 // No function here has a `requires`: each takes every argument.
+#![tactic(auto)]
+
 mod header;
 mod put;
 
@@ -17,7 +19,7 @@ pub const HEADER: usize = 16;
 pub const MAX_FRAME: usize = 65536;
 
 // What the data type and the stream type say of a frame.
-#[derive(Drop)]
+#[derive(Clone, Copy)]
 pub enum FrameType {
     Unary,
     Init,
@@ -26,7 +28,7 @@ pub enum FrameType {
     Close,
 }
 
-#[derive(Drop)]
+#[derive(Clone, Copy)]
 pub struct FixedHeader {
     pub frame_type: FrameType,
     pub total: usize,
@@ -36,7 +38,7 @@ pub struct FixedHeader {
 }
 
 // A good fixed header, or the error code of a bad one.
-#[derive(Drop)]
+#[derive(Clone, Copy)]
 pub enum Parsed {
     Good(FixedHeader),
     Refused(u32),

@@ -5,7 +5,7 @@ use mathlib.Core.Path.{◌≡◌, refl, sym, ap, ◌∙◌}
 use mathlib.Core.List.{List, [], ◌∷◌, ◌++◌, append_assoc, append-nil, map}
 use native.Mathlib.Omega.{arith}
 use native.Mathlib.Nat.{add-sub_of_le}
-use lib.ListN.{length, take, drop, length-append, length-drop, length-map, drop_of_length-le}
+use lib.ListN.{length, take, drop, set, length-append, length-drop, length-map, drop_of_length-le}
 use lib.Seq.{sets, take-nil, drop-nil, take_all, take-length, take-take, take_at, take-append-le, length-take-le, drop-drop}
 use lib.Seq.{drop-append-add}
 
@@ -38,7 +38,7 @@ module _ {A : Type 0} where
   -- one after the other is both at once
   pub sets_then : (l : List A) (at next : ℕ) (x y : List A) → next ≡ at + length x → sets (sets l at x) next y ≡ sets l at (x ++ y)
   sets_then l at next [] y e = let z : next ≡ at = omega arith in rw z
-  sets_then l at next (b ∷ x) y e = sets_then _ (suc at) next x y (omega arith)
+  sets_then l at next (b ∷ x) y e = sets_then (set l at b) (suc at) next x y (omega arith)
 
   -- what a copy of s into `&mut d[at..]` leaves of d: ys is that part of d after the copy
   pub put_back : (d s ys : List A) (at : ℕ) → ys ≡ take (length s) s ++ drop (length s) (take (length d - at) (drop at d))

@@ -6,8 +6,7 @@ use Rattle.fixed_header.specs.declared.FrameType.{FrameType}
 use Rattle.fixed_header.specs.declared.FrameType.TheVariants.{Unary, Init, Data, Feedback, Close}
 use Rattle.fixed_header.specs.Put.{data_type_of, stream_type_of}
 use Rattle.fixed_header.proofs.Digits.{four_digits}
-use Rattle.fixed_header.proofs.put.put_types.Statement.{statement}
-use Rattle.fixed_header.proofs.put.put_types.Tie as tie
+use Rattle.fixed_header.proofs.put.put_types.Goals as goal
 
 small : (t : FrameType) → (data_type_of t < 256) × (stream_type_of t < 256)
 small Unary = (omega arith, omega arith)
@@ -16,24 +15,18 @@ small Data = (omega arith, omega arith)
 small Feedback = (omega arith, omega arith)
 small Close = (omega arith, omega arith)
 
-returns : tie.Need-returns
+pub returns : goal.returns
 returns c =
-    let at_low = c.before.before in
-    let at-stream = at_low.before.before in
-    let t = at-stream.before.before.before.args.frame_type in
+    let at_low = c in
+    let at-stream = at_low in
+    let t = at-stream.args.frame_type in
     let digits = four_digits 0x09 0x30 (data_type_of t) (stream_type_of t) (omega arith) (omega arith) (small t).0 (small t).1 in
     rw (
       at_low.put_low.ensures,
       at-stream.stream_type_lem.ensures,
-      at-stream.before.data_type_lem.ensures,
+      at-stream.data_type_lem.ensures,
       digits.0,
       digits.1,
       digits.2,
       digits.3,
     )
-
-pub put-types-spec : {M : Type 1} → statement M
-put-types-spec =
-    tie.close
-    (tie.spec (λ c κs. search rules) (λ c. search rules) (λ c κs. search rules) (λ c. search rules) (λ c. search rules)
-    (λ c. search rules) (λ c. search rules) (λ c. search rules) (λ c κs. search rules) (λ c. search rules) returns)

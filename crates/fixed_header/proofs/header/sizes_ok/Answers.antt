@@ -9,8 +9,7 @@ use borrow.Author.Rules.{rules}
 use borrow.Author.Tests.{le-leb, lt-leb, eq-eqb, ne_eqb}
 use lib.Dec.{eqb, leb}
 use Rattle.fixed_header.specs.Header.{total_ok, header_size_ok}
-use Rattle.fixed_header.proofs.header.sizes_ok.Statement.{statement}
-use Rattle.fixed_header.proofs.header.sizes_ok.Tie as tie
+use Rattle.fixed_header.proofs.header.sizes_ok.Goals as goal
 
 never : (b c : Bool) → false ≡ (b && false) && c
 never true c = refl
@@ -43,17 +42,14 @@ module _ (c data_type_lem total size : ℕ) where
     unfolding total_ok header_size_ok
     stream d = rw (le-leb 16 total (omega arith), le-leb total c fits, ne_eqb data_type_lem 0 d)
 
-returns : tie.Need-returns
-returns c = over _ _ _ _ c.if1.true
+pub returns-then-ceiling-total : goal.returns-then-ceiling-total
+returns-then-ceiling-total c = over _ _ _ _ c.if-ceiling-total.true
 
-returns-2 : tie.Need-returns-2
-returns-2 c = lacking _ _ _ _ c.if2.true
+pub returns-then-total-size : goal.returns-then-total-size
+returns-then-total-size c = lacking _ _ _ _ c.if-total-size.true
 
-returns-3 : tie.Need-returns-3
-returns-3 c = unary _ _ _ _ (omega (arith, c.before.before.if1.false)) (omega (arith, c.before.if2.false)) c.if3.true
+pub returns-then-data_type-eq0 : goal.returns-then-data_type-eq0
+returns-then-data_type-eq0 c = unary _ _ _ _ (omega (arith, c.if-ceiling-total.false)) (omega (arith, c.if-total-size.false)) c.if-data_type-eq0.true
 
-returns-4 : tie.Need-returns-4
-returns-4 c = stream _ _ _ _ (omega (arith, c.before.before.if1.false)) (omega (arith, c.before.if2.false)) c.if3.false
-
-pub sizes-ok-spec : {M : Type 1} → statement M
-sizes-ok-spec = tie.close (tie.spec returns (λ c. search rules) returns-2 returns-3 returns-4)
+pub returns : goal.returns
+returns c = stream _ _ _ _ (omega (arith, c.if-ceiling-total.false)) (omega (arith, c.if-total-size.false)) c.if-data_type-eq0.false

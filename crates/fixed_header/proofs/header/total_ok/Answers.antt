@@ -8,8 +8,7 @@ use borrow.Author.Rules.{rules}
 use borrow.Author.Tests.{le-leb, lt-leb}
 use lib.Dec.{leb}
 use Rattle.fixed_header.specs.Header.{total_ok}
-use Rattle.fixed_header.proofs.header.total_ok.Statement.{statement}
-use Rattle.fixed_header.proofs.header.total_ok.Tie as tie
+use Rattle.fixed_header.proofs.header.total_ok.Goals as goal
 
 module _ (c content total : ℕ) (low : 16 ≤ c) (high : c < 2 ^ 32) (small : content < 2 ^ 32)
     (wraps : (content + 16) % 2 ^ 32 ≡ total) where
@@ -23,9 +22,6 @@ module _ (c content total : ℕ) (low : 16 ≤ c) (high : c < 2 ^ 32) (small : c
           rw (lt-leb content (c - 16) (omega arith), le-leb 16 total q, lt-leb total c (omega (arith, wraps)))
       by (no p) (no q) = rw (lt-leb content (c - 16) (omega arith), lt-leb 16 total (omega arith))
 
-returns : tie.Need-returns
+pub returns : goal.returns
 unfolding total_ok
 returns c = at_once _ _ _ c.requires.0 (search rules) c.requires.1 refl
-
-pub total-ok-spec : {M : Type 1} → statement M
-total-ok-spec = tie.close (tie.spec (λ c. search rules) returns)

@@ -8,8 +8,7 @@ use borrow.Author.Tests.{eq-eqb, ne_eqb}
 use borrow.Author.Rules.{rules}
 use lib.Dec.{eqb}
 use Rattle.fixed_header.specs.Header.{magic_ok}
-use Rattle.fixed_header.proofs.header.magic_ok.Statement.{statement}
-use Rattle.fixed_header.proofs.header.magic_ok.Tie as tie
+use Rattle.fixed_header.proofs.header.magic_ok.Goals as goal
 
 at_once : (first second : ℕ) → first < 256 → eqb (first + second * 256) 0x3009 ≡ eqb first 0x09 && eqb second 0x30
 at_once first second low = by (ℕ_discrete first 0x09) (ℕ_discrete second 0x30)
@@ -19,13 +18,9 @@ at_once first second low = by (ℕ_discrete first 0x09) (ℕ_discrete second 0x3
     by (yes p) (no q) = rw (eq-eqb first 0x09 p, ne_eqb second 0x30 q) (ne_eqb (first + second * 256) 0x3009 (λ e. q (omega arith)))
     by (no p) q = rw (ne_eqb first 0x09 p) (ne_eqb (first + second * 256) 0x3009 (λ e. p (omega arith)))
 
-returns : tie.Need-returns
+pub returns : goal.returns
 unfolding magic_ok
 returns c =
-    let first = c.before.wide.ensures in
-    let second = c.wide2.ensures in
+    let first = c.wide.ensures in
+    let second = c.wide-2.ensures in
     at_once _ _ first.1 ∙ ap₂ (λ (a b : ℕ). eqb a 0x09 && eqb b 0x30) first.0 second.0
-
-pub magic-ok-spec : {M : Type 1} → statement M
-magic-ok-spec =
-    tie.close (tie.spec (λ c κs. search rules) (λ c κs. search rules) (λ c. search rules) (λ c. search rules) returns)

@@ -8,8 +8,7 @@ use borrow.Author.Tests.{le-leb, lt-leb, eq-eqb, ne_eqb}
 use borrow.Author.Rules.{rules}
 use lib.Dec.{eqb, leb}
 use Rattle.fixed_header.specs.Header.{header_size_ok}
-use Rattle.fixed_header.proofs.header.header_size_ok.Statement.{statement}
-use Rattle.fixed_header.proofs.header.header_size_ok.Tie as tie
+use Rattle.fixed_header.proofs.header.header_size_ok.Goals as goal
 
 module _ (data_type_lem content size most : ℕ) where
   unary : data_type_lem ≡ 0 → most ≡ content → leb size most ≡ header_size_ok data_type_lem (content + 16) size
@@ -26,8 +25,5 @@ module _ (data_type_lem content size most : ℕ) where
       by (yes z) = le-leb size 0 (omega arith) ∙ sym (eq-eqb size 0 z)
       by (no n) = lt-leb size 0 (omega arith) ∙ sym (ne_eqb size 0 n)
 
-returns : tie.Need-returns
-returns c = ⊎_elim (λ w. unary _ _ _ _ w.0.taken w.1) (λ w. stream _ _ _ _ w.0.left w.1) c.if1.branch
-
-pub header-size-ok-spec : {M : Type 1} → statement M
-header-size-ok-spec = tie.close (tie.spec returns)
+pub returns : goal.returns
+returns c = ⊎_elim (λ w. unary _ _ _ _ w.0.taken w.1) (λ w. stream _ _ _ _ w.0.left w.1) c.if-data_type-eq0.branch

@@ -9,8 +9,7 @@ use lib.Dec.{eqb}
 use lib.ListN.{get_or}
 use Rattle.fixed_header.specs.Header.{total_of, header_size_of, total_ok, header_size_ok, type_fault, size_fault, fault_of}
 use Rattle.fixed_header.proofs.Codes.{types_pass}
-use Rattle.fixed_header.proofs.header.good.Statement.{statement}
-use Rattle.fixed_header.proofs.header.good.Tie as tie
+use Rattle.fixed_header.proofs.header.good.Goals as goal
 
 two-rules : (a b : Bool) → a && b ≡ eqb (cond a (cond b 0 7) 6) 0
 two-rules true true = refl
@@ -34,19 +33,17 @@ module _ (c : ℕ) (h : List ℕ) (types : ℕ) (is-types : types ≡ type_fault
       is ∙ rw (is_total, is_size) (two-rules (total_ok c (total_of h)) (header_size_ok (get_or h 2 0) (total_of h) (header_size_of h)))
       ∙ sym (ap (λ (n : ℕ). eqb n 0) rest)
 
-returns : tie.Need-returns
-returns c = bad _ _ _ c.before.type-fault.ensures c.if1.true
+pub returns-then-type_fault-ne0 : goal.returns-then-type_fault-ne0
+returns-then-type_fault-ne0 c = bad _ _ _ c.type_fault.ensures c.if-type_fault-ne0.true
 
-returns-2 : tie.Need-returns-2
-returns-2 c =
-    let at_size = c.before in
-    let at-total = at_size.before in
-    let at-if1 = at-total.before.before in
-    by-sizes _ _ _ at-if1.before.type-fault.ensures at-if1.if1.false _ _ at-total.total.ensures at_size.header_size_lem.ensures.0
-    c.sizes-ok.ensures
+pub returns : goal.returns
+returns c =
+    let at_size = c in
+    let at-total = at_size in
+    let at-if1 = at-total in
+    by-sizes _ _ _ at-if1.type_fault.ensures at-if1.if-type_fault-ne0.false _ _ at-total.total.ensures at_size.header_size_lem.ensures.0
+    c.sizes_ok.ensures
 
-pub good-spec : {M : Type 1} → statement M
-good-spec =
-    tie.close
-    (tie.spec (λ c. search rules) (λ c. search rules) (λ c. search rules) (λ c. search rules) (λ c κs. search rules) returns
-    (λ c. search rules) (λ c κs. search rules) (λ c κs. search rules) (λ c κs. c.header_size_lem.ensures.1) returns-2)
+pub sizes_ok-requires : goal.sizes_ok-requires
+sizes_ok-requires c =
+    c.header_size_lem.ensures.1

@@ -9,8 +9,7 @@ use borrow.Author.Tests.{leb-true, not-true, not-false}
 use lib.Dec.{leb}
 use Rattle.laws.proofs.Booleans.{both}
 use Rattle.fixed_header.specs.Header.{total_ok, header_size_ok, size_fault}
-use Rattle.fixed_header.proofs.header.size_fault.Statement.{statement}
-use Rattle.fixed_header.proofs.header.size_fault.Tie as tie
+use Rattle.fixed_header.proofs.header.size_fault.Goals as goal
 
 module _ (c data_type_lem total size content : ℕ) (small : content < 2 ^ 32) (wraps : (content + 16) % 2 ^ 32 ≡ total)
     {ok : Bool} (total_is : ok ≡ total_ok c ((content + 16) % 2 ^ 32)) where
@@ -32,30 +31,29 @@ module _ (c data_type_lem total size content : ℕ) (small : content < 2 ^ 32) (
       by_size : (b : Bool) → fits ≡ b → cond b 0 7 ≡ size_fault c data_type_lem total size
       by_size b e = rw (good, size_is, e)
 
-returns : tie.Need-returns
+pub returns-then-not-total_ok : goal.returns-then-not-total_ok
+returns-then-not-total_ok c =
+    let at-total = c in
+    let at-content = at-total in
+    let left = at-content.content_size-content.ensures in
+    bad-total _ _ _ _ _ left.0 left.1 at-total.total_ok.ensures (not-true _ c.if-not-total_ok.true-raw)
+
+pub returns-then-not-header_size_ok : goal.returns-then-not-header_size_ok
+returns-then-not-header_size_ok c =
+    let at-if1 = c in
+    let at-total = at-if1 in
+    let left = at-total.content_size-content.ensures in
+    by_size _ _ _ _ _ left.0 left.1 at-total.total_ok.ensures (not-false _ at-if1.if-not-total_ok.false-raw)
+    c.header_size_ok.ensures false (not-true _ c.if-not-header_size_ok.true-raw)
+
+pub returns : goal.returns
 returns c =
-    let at-total = c.before in
-    let at-content = at-total.before in
-    let left = at-content.content-size.ensures in
-    bad-total _ _ _ _ _ left.0 left.1 at-total.total-ok.ensures (not-true _ c.if1.true)
+    let at-if1 = c in
+    let at-total = at-if1 in
+    let left = at-total.content_size-content.ensures in
+    by_size _ _ _ _ _ left.0 left.1 at-total.total_ok.ensures (not-false _ at-if1.if-not-total_ok.false-raw)
+    c.header_size_ok.ensures true (not-false _ c.if-not-header_size_ok.false-raw)
 
-returns-2 : tie.Need-returns-2
-returns-2 c =
-    let at-if1 = c.before.before in
-    let at-total = at-if1.before in
-    let left = at-total.before.content-size.ensures in
-    by_size _ _ _ _ _ left.0 left.1 at-total.total-ok.ensures (not-false _ at-if1.if1.false)
-    c.before.header-size-ok.ensures false (not-true _ c.if2.true)
-
-returns-3 : tie.Need-returns-3
-returns-3 c =
-    let at-if1 = c.before.before in
-    let at-total = at-if1.before in
-    let left = at-total.before.content-size.ensures in
-    by_size _ _ _ _ _ left.0 left.1 at-total.total-ok.ensures (not-false _ at-if1.if1.false)
-    c.before.header-size-ok.ensures true (not-false _ c.if2.false)
-
-pub size-fault-spec : {M : Type 1} → statement M
-size-fault-spec =
-    tie.close
-    (tie.spec (λ c κs. search rules) (λ c κs. (c.before.requires, c.content-size.ensures.0)) returns (λ c κs. search rules) returns-2 returns-3)
+pub total_ok-requires : goal.total_ok-requires
+total_ok-requires c =
+    (c.requires, c.content_size-content.ensures.0)
