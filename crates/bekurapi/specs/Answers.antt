@@ -35,11 +35,11 @@ header_given (headers.Good h) = h
 header_given (headers.Refused code) = record { frame_type = types.Unary; total = 0; header_size = 0; id = 0; version = 0 }
 
 -- so a call of `trpc_header_parse` gave the number that is returned and the five that it hands out
-pub record ParsedAs (c : ℕ) (bytes : List ℕ) (code frame_type total header_size_lem id version : ℕ) : Type 0 where
+pub record ParsedAs (c : ℕ) (bytes : List ℕ) (code frame_type total header_size id version : ℕ) : Type 0 where
   pub code_is : code ≡ parsed_error (parsed c bytes)
   pub type_is : frame_type ≡ type_number (header_given (parsed c bytes)).frame_type
   pub total_is : total ≡ (header_given (parsed c bytes)).total
-  pub header_size_is : header_size_lem ≡ (header_given (parsed c bytes)).header_size
+  pub header_size_is : header_size ≡ (header_given (parsed c bytes)).header_size
   pub id_is : id ≡ (header_given (parsed c bytes)).id
   pub version_is : version ≡ (header_given (parsed c bytes)).version
 

@@ -1,6 +1,8 @@
 // The library's interface for C: exported functions over numbers and slices. include/bekurapi.h declares them.
 //
 // No function here has a `requires`: each takes every argument, and answers 0 or an error code of documents 01 and 02.
+#![tactic(auto)]
+
 mod answers;
 mod kinds;
 mod numbers;

@@ -2,13 +2,13 @@
 -- Assumes nothing.
 use mathlib.Core.Path.{refl}
 use Rattle.laws.specs.Asking.{AsksNothing}
-use Rattle.copying.proofs as entry
+use Rattle.copying.specs.contracts as entry
 
-pub has_room : AsksNothing entry.has_room.signature (λ M. entry.has_room.spec)
+pub has_room : AsksNothing entry.has_room.signature (λ M 𝓤. entry.has_room.spec)
 has_room M 𝓤 𝓛 mem run κs a = (tt, refl)
 
-pub copy_to : AsksNothing entry.copy_to.signature (λ M. entry.copy_to.spec)
+pub copy_to : AsksNothing entry.copy_to.signature (λ M 𝓤. entry.copy_to.spec)
 copy_to M 𝓤 𝓛 mem run κs a = (tt, refl)
 
-pub copy_short_to : AsksNothing entry.copy_short_to.signature (λ M. entry.copy_short_to.spec)
+pub copy_short_to : AsksNothing entry.copy_short_to.signature (λ M 𝓤. entry.copy_short_to.spec)
 copy_short_to M 𝓤 𝓛 mem run κs a = (tt, refl)

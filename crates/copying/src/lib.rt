@@ -2,6 +2,8 @@
 //
 // A copy stores all of its bytes, or, where there is no room for them, leaves the output as it is. No function here has a `requires`:
 // each takes every argument.
+#![tactic(auto)]
+
 mod parts;
 mod short;
 

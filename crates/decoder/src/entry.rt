@@ -10,7 +10,7 @@ use crate::walking::{start_of, step_in};
 use wire_read::Field;
 
 // The starts and lengths of an entry's key and value; an empty one is 0, 0.
-#[derive(Drop)]
+#[derive(Clone, Copy)]
 pub(crate) struct MapEntry {
     pub key: u32,
     pub key_size: u32,
@@ -18,7 +18,7 @@ pub(crate) struct MapEntry {
     pub value_size: u32,
 }
 
-#[derive(Drop)]
+#[derive(Clone, Copy)]
 pub(crate) enum ReadEntry {
     Entry(MapEntry),
     Refused(u32),

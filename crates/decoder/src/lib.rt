@@ -1,5 +1,7 @@
 // The decoder of the tRPC messages: the fields of a part of a frame go to slots, and its map to lent
 // rows, by a schema number.
+#![tactic(auto)]
+
 mod entry;
 mod messages;
 mod rows;
@@ -20,7 +22,7 @@ pub const ROW_NUMBERS: usize = 256;
 
 // The values of a message's fields by its schema's order, how many rows there are, and how many map
 // entries were seen, repeats counted.
-#[derive(Drop)]
+#[derive(Clone, Copy)]
 pub struct Slots {
     pub values: [u32; 16],
     pub rows: usize,
@@ -28,7 +30,7 @@ pub struct Slots {
 }
 
 // What was read; or the error code, where it is not 0, and the slots are all zero.
-#[derive(Drop)]
+#[derive(Clone, Copy)]
 pub struct Decoded {
     pub slots: Slots,
     pub error: u32,

@@ -2,10 +2,10 @@
 -- Assumes nothing.
 use mathlib.Core.Path.{refl}
 use Rattle.laws.specs.Asking.{AsksNothing}
-use Rattle.deframer.proofs as entry
+use Rattle.deframer.specs.contracts as entry
 
-pub deframe : AsksNothing entry.deframe.signature (λ M. entry.deframe.spec)
+pub deframe : AsksNothing entry.deframe.signature (λ M 𝓤. entry.deframe.spec)
 deframe M 𝓤 𝓛 mem run κs a = (tt, refl)
 
-pub finish : AsksNothing entry.finish.signature (λ M. entry.finish.spec)
+pub finish : AsksNothing entry.finish.signature (λ M 𝓤. entry.finish.spec)
 finish M 𝓤 𝓛 mem run κs a = (tt, refl)

@@ -27,8 +27,8 @@ use Rattle.deframer.proofs.Uncut.{uncut_short, uncut_bad, uncut_part, uncut_whol
 use Rattle.deframer.proofs.LastTwoUncut.{left_after}
 
 -- ---- the numbers of the sizes come after those of magic and types
-size_late : (c data_type_lem total size : ℕ) → 0 < size_fault c data_type_lem total size → 6 ≤ size_fault c data_type_lem total size
-size_late c data_type_lem total size some = go (total_ok c total) (header_size_ok data_type_lem total size) some
+size_late : (c data_type total size : ℕ) → 0 < size_fault c data_type total size → 6 ≤ size_fault c data_type total size
+size_late c data_type total size some = go (total_ok c total) (header_size_ok data_type total size) some
   where
     go : (x y : Bool) → 0 < cond x (cond y 0 7) 6 → 6 ≤ cond x (cond y 0 7) 6
     go true true some = absurd (omega arith)

@@ -4,6 +4,8 @@
 // bytes, and a Deframer, which starts as { held: 0, error: 0 }. It hands every piece that arrives to `deframe`, together with the three,
 // until the piece is taken; at the end of the input it asks `finish`.
 // No function here has a `requires`: each takes every argument, and refuses a bad one with an error code of documents 01 and 02.
+#![tactic(auto)]
+
 mod fill;
 
 ghost use Rattle.std.specs.Prelude.{◌≡◌};
@@ -14,7 +16,7 @@ use refusals::{BAD_CEILING, BUFFER_SHORT, STATE_UNKNOWN};
 
 // The deframer's state between calls: how many bytes of an unfinished frame are at the start of the buffer, and the error
 // code of the header that ended the stream, 0 for none.
-#[derive(Drop)]
+#[derive(Clone, Copy)]
 pub struct Deframer {
     pub held: usize,
     pub error: u32,
@@ -22,14 +24,14 @@ pub struct Deframer {
 
 // What a call of the deframer came to: a whole frame of that size is at the start of the buffer; the piece is used up;
 // or an error code.
-#[derive(Drop)]
+#[derive(Clone, Copy)]
 pub enum Progress {
     Frame(usize),
     NeedMore,
     Refused(u32),
 }
 
-#[derive(Drop)]
+#[derive(Clone, Copy)]
 pub struct Step {
     pub progress: Progress,
     pub next: Deframer,
@@ -37,7 +39,7 @@ pub struct Step {
 }
 
 // How a stream ended: after a whole frame, with that many bytes of an unfinished one, or with an error code.
-#[derive(Drop)]
+#[derive(Clone, Copy)]
 pub enum End {
     Clean,
     Short(usize),

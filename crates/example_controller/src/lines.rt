@@ -1,7 +1,7 @@
 // The two lines that the controller has.
 
 // A connection: its number, and its ceiling, the size of the largest frame that it takes.
-#[derive(Drop)]
+#[derive(Clone, Copy)]
 pub(crate) struct Line {
     pub(crate) connection: u32,
     pub(crate) ceiling: u32,

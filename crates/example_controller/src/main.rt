@@ -2,6 +2,8 @@
 // the same. A gateway's stream arrives in pieces of odd sizes; the frames are cut from it, the requests are read, and a job is
 // queued for each. A sensor's line has a ceiling of 4,096 bytes and a buffer of as many: a larger frame is refused. Then the jobs
 // are taken, the one that is due first before the others, and each is answered with a response under its line's ceiling.
+#![tactic(auto)]
+
 mod answers;
 mod frames;
 mod gateway;
@@ -22,7 +24,7 @@ use queue::Queue;
 const PIECES: usize = 1024;
 
 // A line, its deframer's state, and the jobs that wait.
-#[derive(Drop)]
+#[derive(Clone, Copy)]
 struct Controller {
     line: Line,
     deframer: Deframer,

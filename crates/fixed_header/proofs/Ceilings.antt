@@ -54,9 +54,9 @@ module _ (c : ℕ) (in_range : CeilingOk c) (h : List ℕ) where
   pub over_ceiling : length h ≡ 16 → magic_ok (get_or h 0 0) (get_or h 1 0) ≡ true → data_type_ok (get_or h 2 0) ≡ true
       → stream_type_ok (get_or h 2 0) (get_or h 3 0) ≡ true → c < total_of h → header_error c h ≡ 6
   unfolding fault_of total_ok
-  over_ceiling long magic data_type_lem stream_type_lem over =
+  over_ceiling long magic data_type stream_type over =
       sixteen c in_range h long
-      ∙ rw (magic, data_type_lem, stream_type_lem, le-leb 16 (total_of h) (omega (arith, in_range)), lt-leb (total_of h) c over)
+      ∙ rw (magic, data_type, stream_type, le-leb 16 (total_of h) (omega (arith, in_range)), lt-leb (total_of h) c over)
 
 pub good_larger : (c d : ℕ) (h : List ℕ) → c ≤ d → d ≤ max_frame → header_error c h ≡ 0 → header_error d h ≡ 0
 good_larger c d h more most good =

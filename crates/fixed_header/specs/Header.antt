@@ -47,11 +47,11 @@ magic_ok first second = eqb first 0x09 && eqb second 0x30
 
 -- "data type | 0 unary, 1 stream"
 unfoldable pub data_type_ok : ℕ → Bool
-data_type_ok data_type_lem = leb data_type_lem 1
+data_type_ok data_type = leb data_type 1
 
 -- "stream type | 1 Init, 2 Data, 3 Feedback, 4 Close; ignored in unary"
 unfoldable pub stream_type_ok : ℕ → ℕ → Bool
-stream_type_ok data_type_lem stream_type_lem = eqb data_type_lem 0 || (leb 1 stream_type_lem && leb stream_type_lem 4)
+stream_type_ok data_type stream_type = eqb data_type 0 || (leb 1 stream_type && leb stream_type 4)
 
 -- "total size, these 16 included | 16 to 65,536"; P11: "1, 6 and 19 speak of the ceiling"
 unfoldable pub total_ok : (c total : ℕ) → Bool
@@ -60,7 +60,7 @@ total_ok c total = leb 16 total && leb total c
 -- "header size | unary: at most total less 16; stream: 0". A total under 16 breaks the rule before this one, so the subtraction does not
 -- stop at 0 (`good_total`).
 unfoldable pub header_size_ok : ℕ → ℕ → ℕ → Bool
-header_size_ok data_type_lem total size = cond (eqb data_type_lem 0) (leb size (total - 16)) (eqb size 0)
+header_size_ok data_type total size = cond (eqb data_type 0) (leb size (total - 16)) (eqb size 0)
 
 -- Document 02, P2: "Source document 002 calls byte 15 the protocol version and only byte 16 reserved"; "Readers accept all versions and
 -- ignore byte 16." So no rule is about these two bytes. Of a byte the remainder is the byte (`version_is_byte_15`)
@@ -69,12 +69,12 @@ version_of h = get_or h 14 0 % 256
 
 -- "3-8 | header judge | magic; data type; stream type; total; header size; reserved", of which document 02 takes out 8: the first that is
 -- broken, 0 for none. The types have what the later rules say as their last argument.
-abbrev pub type_fault : (first second data_type_lem stream_type_lem later : ℕ) → ℕ
-type_fault first second data_type_lem stream_type_lem later =
-    unless (magic_ok first second) 3 (unless (data_type_ok data_type_lem) 4 (unless (stream_type_ok data_type_lem stream_type_lem) 5 later))
+abbrev pub type_fault : (first second data_type stream_type later : ℕ) → ℕ
+type_fault first second data_type stream_type later =
+    unless (magic_ok first second) 3 (unless (data_type_ok data_type) 4 (unless (stream_type_ok data_type stream_type) 5 later))
 
-abbrev pub size_fault : (c data_type_lem total size : ℕ) → ℕ
-size_fault c data_type_lem total size = unless (total_ok c total) 6 (unless (header_size_ok data_type_lem total size) 7 0)
+abbrev pub size_fault : (c data_type total size : ℕ) → ℕ
+size_fault c data_type total size = unless (total_ok c total) 6 (unless (header_size_ok data_type total size) 7 0)
 
 unfoldable pub fault_of : (c : ℕ) → List ℕ → ℕ
 fault_of c h =
@@ -88,11 +88,11 @@ header_error c h = unless (ceiling_ok c) 41 (unless (eqb (length h) 16) 9 (fault
 
 -- "data type | 0 unary, 1 stream"; "1 Init, 2 Data, 3 Feedback, 4 Close"
 unfoldable pub type_of : ℕ → ℕ → FrameType
-type_of data_type_lem stream_type_lem =
-    cond (eqb data_type_lem 0) Unary
-    (cond (eqb stream_type_lem 1) Init
-    (cond (eqb stream_type_lem 2) Data
-    (cond (eqb stream_type_lem 3) Feedback
+type_of data_type stream_type =
+    cond (eqb data_type 0) Unary
+    (cond (eqb stream_type 1) Init
+    (cond (eqb stream_type 2) Data
+    (cond (eqb stream_type 3) Feedback
     Close)))
 
 -- what 16 bytes say

@@ -3,6 +3,8 @@
 //
 // It reads in pieces, and for an input of any length it has three buffers: a piece of the input, the frame that the
 // deframer fills, and the text to print. An error of a read or a write ends it with a message on standard error.
+#![tactic(auto)]
+
 mod lines;
 
 ghost use Rattle.std.specs.Prelude.{◌≡◌, ◌+◌, ◌<◌, ◌≤◌, true, false, length, take, drop};
@@ -23,7 +25,7 @@ const CEILING: u32 = 65536;
 
 // What is kept from piece to piece: the deframer's state, how many frames were listed, how many bytes of the text are not
 // printed yet, and whether the program is done.
-#[derive(Drop)]
+#[derive(Clone, Copy)]
 struct Listing {
     deframer: Deframer,
     frames: u64,

@@ -2,10 +2,10 @@
 -- Assumes nothing.
 use mathlib.Core.Path.{refl}
 use Rattle.laws.specs.Asking.{AsksNothing}
-use Rattle.message.proofs as entry
+use Rattle.message.specs.contracts as entry
 
-pub read_spans : AsksNothing entry.read_spans.signature (λ M. entry.read_spans.spec)
+pub read_spans : AsksNothing entry.read_spans.signature (λ M 𝓤. entry.read_spans.spec)
 read_spans M 𝓤 𝓛 mem run κs a = (tt, refl)
 
-pub bytes_at : AsksNothing entry.bytes_at.signature (λ M. entry.bytes_at.spec)
+pub bytes_at : AsksNothing entry.bytes_at.signature (λ M 𝓤. entry.bytes_at.spec)
 bytes_at M 𝓤 𝓛 mem run κs a = (tt, refl)

@@ -17,7 +17,7 @@ use schema::{Kind, schema_number};
 
 // Where the parts of a frame are: the header up to the body, the body and the attachment up to the end. All are 0 where the
 // frame is refused.
-#[derive(Drop)]
+#[derive(Clone, Copy)]
 pub(crate) struct Places {
     pub header: usize,
     pub body: usize,
@@ -26,7 +26,7 @@ pub(crate) struct Places {
 }
 
 // The record or the error code, and the places of the parts.
-#[derive(Drop)]
+#[derive(Clone, Copy)]
 pub(crate) struct Parts {
     pub answer: Answer,
     pub places: Places,

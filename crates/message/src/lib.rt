@@ -1,4 +1,6 @@
 // The tRPC messages: what a frame says, read as one of six kinds.
+#![tactic(auto)]
+
 mod frames;
 
 ghost use Rattle.std.specs.Prelude.{◌≡◌, min, length};
@@ -10,14 +12,14 @@ use records::{Record, Span};
 use schema::Kind;
 
 // What a frame reads as: its record, or the error code.
-#[derive(Drop)]
+#[derive(Clone, Copy)]
 pub enum Answer {
     Read(Record),
     Refused(u32),
 }
 
 // What a frame reads as, with its parts as starts and lengths; an empty one is 0, 0.
-#[derive(Drop)]
+#[derive(Clone, Copy)]
 pub struct Located {
     pub answer: Answer,
     pub header: Span,

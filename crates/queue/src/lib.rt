@@ -1,5 +1,7 @@
 // The queue of waiting jobs, by value (document 01, "Waiting jobs"): a queue goes in and comes back with the answer.
 // An answer carries an error code, document 01's refusal number, and 0 where there is none.
+#![tactic(auto)]
+
 mod due;
 mod pairs;
 mod removal;
@@ -21,7 +23,7 @@ pub const LATEST_ARRIVAL: u64 = 4611686018427387904;
 // `zero` fills the four bytes before `arrival`: without it they would be padding, which no contract could speak of. No
 // function looks at it, and it moves with its job.
 #[repr(C)]
-#[derive(Drop)]
+#[derive(Clone, Copy)]
 pub struct Job {
     pub connection: u32,
     pub request: u32,
@@ -32,21 +34,21 @@ pub struct Job {
 
 // The first `count` jobs wait, in order of acceptance.
 #[repr(C)]
-#[derive(Drop)]
+#[derive(Clone, Copy)]
 pub struct Queue {
     pub jobs: [Job; 64],
     pub count: usize,
 }
 
 // What `add` answers.
-#[derive(Drop)]
+#[derive(Clone, Copy)]
 pub struct Added {
     pub queue: Queue,
     pub error: u32,
 }
 
 // What `take` and `cancel` answer, with the job removed.
-#[derive(Drop)]
+#[derive(Clone, Copy)]
 pub struct Removed {
     pub queue: Queue,
     pub job: Job,

@@ -2,16 +2,16 @@
 -- Assumes nothing.
 use mathlib.Core.Path.{refl}
 use Rattle.laws.specs.Asking.{AsksNothing}
-use Rattle.queue_in_place.proofs as entry
+use Rattle.queue_in_place.specs.contracts as entry
 
-pub trpc_queue_init : AsksNothing entry.trpc_queue_init.signature (λ M. entry.trpc_queue_init.spec)
+pub trpc_queue_init : AsksNothing entry.trpc_queue_init.signature (λ M 𝓤. entry.trpc_queue_init.spec)
 trpc_queue_init M 𝓤 𝓛 mem run κs a = (tt, refl)
 
-pub trpc_queue_add : AsksNothing entry.trpc_queue_add.signature (λ M. entry.trpc_queue_add.spec)
+pub trpc_queue_add : AsksNothing entry.trpc_queue_add.signature (λ M 𝓤. entry.trpc_queue_add.spec)
 trpc_queue_add M 𝓤 𝓛 mem run κs a = (tt, refl)
 
-pub trpc_queue_take : AsksNothing entry.trpc_queue_take.signature (λ M. entry.trpc_queue_take.spec)
+pub trpc_queue_take : AsksNothing entry.trpc_queue_take.signature (λ M 𝓤. entry.trpc_queue_take.spec)
 trpc_queue_take M 𝓤 𝓛 mem run κs a = (tt, refl)
 
-pub trpc_queue_cancel : AsksNothing entry.trpc_queue_cancel.signature (λ M. entry.trpc_queue_cancel.spec)
+pub trpc_queue_cancel : AsksNothing entry.trpc_queue_cancel.signature (λ M 𝓤. entry.trpc_queue_cancel.spec)
 trpc_queue_cancel M 𝓤 𝓛 mem run κs a = (tt, refl)

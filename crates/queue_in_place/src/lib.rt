@@ -2,6 +2,8 @@
 // reads the queue, calls the function by value of crate `queue`, stores the queue and the job of the answer, and returns its
 // error code: document 01's refusal number, and 0 where there is none. So each contract says that what the caller has
 // afterwards, put together as that answer, is the definition's answer for the queue as it was lent.
+#![tactic(auto)]
+
 ghost use Rattle.std.specs.Prelude.{◌≡◌};
 ghost use Rattle.queue.specs.Calls.{new_job, empty_queue, added, taken, cancelled};
 

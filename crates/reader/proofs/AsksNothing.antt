@@ -2,7 +2,7 @@
 -- Assumes nothing.
 use mathlib.Core.Path.{refl}
 use Rattle.laws.specs.Asking.{AsksNothing}
-use Rattle.reader.proofs as entry
+use Rattle.reader.specs.contracts as entry
 
-pub read : AsksNothing entry.read.signature (λ M. entry.read.spec)
+pub read : AsksNothing entry.read.signature (λ M 𝓤. entry.read.spec)
 read M 𝓤 𝓛 mem run κs a = (tt, refl)

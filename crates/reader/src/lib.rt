@@ -1,4 +1,6 @@
 // The reader of a frame: its record, and its parts as subslices of the caller's frame.
+#![tactic(auto)]
+
 mod parts;
 
 ghost use Rattle.std.specs.Prelude.{◌≡◌, length};
@@ -12,7 +14,7 @@ use schema::Kind;
 
 // What a frame reads as: the record or the error code, and the parts of the caller's frame, which are empty where it is
 // refused.
-#[derive(Drop)]
+#[derive(Clone, Copy)]
 pub struct Reading<'a> {
     pub answer: Answer,
     pub header: &'a [u8],

@@ -1,4 +1,6 @@
 // The record of each of the six kinds, and the slots of its message: from slots to record and from record to slots.
+#![tactic(auto)]
+
 mod records;
 mod slots;
 
@@ -11,13 +13,13 @@ use schema::Kind;
 use slots::{close_slots, feedback_slots, init_slots, request_slots, response_slots};
 
 // A byte field: where it starts in the frame, and how long it is; an empty one is 0, 0.
-#[derive(Drop)]
+#[derive(Clone, Copy)]
 pub struct Span {
     pub start: u32,
     pub len: u32,
 }
 
-#[derive(Drop)]
+#[derive(Clone, Copy)]
 pub struct Request {
     pub id: u32,
     pub header_version: u8,
@@ -35,7 +37,7 @@ pub struct Request {
     pub rows: u32,
 }
 
-#[derive(Drop)]
+#[derive(Clone, Copy)]
 pub struct Response {
     pub id: u32,
     pub header_version: u8,
@@ -52,7 +54,7 @@ pub struct Response {
     pub rows: u32,
 }
 
-#[derive(Drop)]
+#[derive(Clone, Copy)]
 pub struct RequestMeta {
     pub present: bool,
     pub caller: Span,
@@ -61,14 +63,14 @@ pub struct RequestMeta {
     pub message_type: u32,
 }
 
-#[derive(Drop)]
+#[derive(Clone, Copy)]
 pub struct ResponseMeta {
     pub present: bool,
     pub ret: i32,
     pub error_msg: Span,
 }
 
-#[derive(Drop)]
+#[derive(Clone, Copy)]
 pub struct Init {
     pub id: u32,
     pub header_version: u8,
@@ -80,14 +82,14 @@ pub struct Init {
     pub rows: u32,
 }
 
-#[derive(Drop)]
+#[derive(Clone, Copy)]
 pub struct Data {
     pub id: u32,
     pub header_version: u8,
     pub rows: u32,
 }
 
-#[derive(Drop)]
+#[derive(Clone, Copy)]
 pub struct Feedback {
     pub id: u32,
     pub header_version: u8,
@@ -95,7 +97,7 @@ pub struct Feedback {
     pub rows: u32,
 }
 
-#[derive(Drop)]
+#[derive(Clone, Copy)]
 pub struct Close {
     pub id: u32,
     pub header_version: u8,
@@ -107,7 +109,7 @@ pub struct Close {
     pub rows: u32,
 }
 
-#[derive(Drop)]
+#[derive(Clone, Copy)]
 pub enum Record {
     Request(Request),
     Response(Response),
@@ -118,7 +120,7 @@ pub enum Record {
 }
 
 // What a record is beside its fields.
-#[derive(Drop)]
+#[derive(Clone, Copy)]
 pub struct Outline {
     pub kind: Kind,
     pub id: u32,

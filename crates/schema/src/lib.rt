@@ -1,4 +1,6 @@
 // The six kinds of frames and the fields of their messages: which slot a field is read to.
+#![tactic(auto)]
+
 mod fields;
 
 ghost use Rattle.std.specs.Prelude.{◌≡◌};
@@ -12,7 +14,7 @@ use fields::{
 };
 
 // What the caller expects a frame to be. A unary frame does not say whether it is a request or a response.
-#[derive(Drop)]
+#[derive(Clone, Copy)]
 pub enum Kind {
     Request,
     Response,
@@ -41,7 +43,7 @@ pub const RESPONSE_META: u32 = 7;
 
 // A number goes to a slot, bytes to two, an entry to the rows; a message has a slot for its present
 // mark and a schema of its own.
-#[derive(Drop)]
+#[derive(Clone, Copy)]
 pub enum Target {
     Number(usize),
     Bytes(usize),

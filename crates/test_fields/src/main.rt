@@ -4,6 +4,8 @@
 //
 // Standard input is labels and strings by turns. For each string the program writes `# LABEL`, then
 // a line for each field, or `refused N` with the error code N where it is not fields to its end.
+#![tactic(auto)]
+
 mod input;
 mod lines;
 mod print;

@@ -73,7 +73,7 @@ fn print_value(level: u32, field: Field, s: &[u8]) {
 }
 
 // The fields inside a field: its number, where they start and where they end.
-#[derive(Drop)]
+#[derive(Clone, Copy)]
 enum Inner {
     Fields(u32, usize, usize),
     Nothing,

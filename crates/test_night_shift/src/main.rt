@@ -1,5 +1,7 @@
 // The order in which jobs are taken, printed as their timeouts: the night shift's two jobs, one of which had been taken
 // first by a signed 32-bit difference of the timeouts, and document 01's example.
+#![tactic(auto)]
+
 use libc::STDOUT_FILENO;
 use queue::{Job, Queue};
 

@@ -1,4 +1,6 @@
 // The queue's error codes and their order, and which job is taken, case by case: a line for each, its name and the number.
+#![tactic(auto)]
+
 use libc::STDOUT_FILENO;
 use queue::{Job, Queue};
 

@@ -5,6 +5,8 @@
 // For each case of standard input the program writes `# LABEL`; the header, the body and the
 // attachment; the record with a line for each field, or `refused N`; a line for each row; and what
 // became of the row numbers that were lent.
+#![tactic(auto)]
+
 mod input;
 mod lines;
 mod numbers;

@@ -10,6 +10,8 @@
 //
 // For each case the program writes `# LABEL`; `frame SIZE BYTES` or `refused N`; and how many bytes
 // of the output past the frame are as they were.
+#![tactic(auto)]
+
 mod input;
 mod lines;
 mod output;

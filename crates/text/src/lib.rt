@@ -1,5 +1,7 @@
 // Text in a lent buffer. A function that adds to it puts something after the `at` bytes that are there, and returns the place
 // after it. Where there is no room, the buffer stays as it was and the place is FULL.
+#![tactic(auto)]
+
 ghost use Rattle.std.specs.Prelude.{◌≡◌, [], ◌∷◌, ◌<◌};
 ghost use Rattle.io.specs.Digits.{hex_digit_ascii};
 ghost use Rattle.text.specs.Numbers.{decimal, signed, hex_byte};

@@ -111,7 +111,7 @@ module _ (c : ℕ) (wrong : WrongCeiling c) where
   c_bad_ceiling_check bytes code is = (c_check c bytes code is).refused 41 (inl (wrong, refl))
 
   pub c_bad_ceiling_parse : (bytes : List ℕ) (x : CParsed) → CParses c bytes x
-      → x ≡ record { code = 41; frame_type = 0; total = 0; header_size_lem = 0; id = 0; version = 0 }
+      → x ≡ record { code = 41; frame_type = 0; total = 0; header_size = 0; id = 0; version = 0 }
   c_bad_ceiling_parse bytes x is = (c_parse c bytes x is).refused 41 (inl (wrong, refl))
 
   pub c_bad_ceiling_deframe : (held error : ℕ) (buffer piece : List ℕ) (d : CDeframed) → CDeframes c held error buffer piece d

@@ -44,14 +44,14 @@ module _ {M : Type 1} {𝓤 : Ura M} (𝓛 : Logic 𝓤) (mem : Memory → SProp
       ≡ fact 𝓤 (CChecks ceiling bytes.now code)
   trpc_header_check_ensures bytes ceiling code = refl
 
-  pub trpc_header_parse_ensures : (bytes : Bor (List ℕ)) (ceiling : ℕ) (frame_type total header_size_lem id version : Bor ℕ) (x : CParsed)
+  pub trpc_header_parse_ensures : (bytes : Bor (List ℕ)) (ceiling : ℕ) (frame_type total header_size id version : Bor ℕ) (x : CParsed)
       → (header_parse.clauses 𝓛 mem run (a, (b, (c, (d, (e, (f, tt))))))
-      (bytes, (ceiling, (frame_type, (total, (header_size_lem, (id, (version, tt)))))))).ensures tt x.code
+      (bytes, (ceiling, (frame_type, (total, (header_size, (id, (version, tt)))))))).ensures tt x.code
       (at_exit header_parse.ended (a, (b, (c, (d, (e, (f, tt))))))
-      (bytes, (ceiling, (frame_type, (total, (header_size_lem, (id, (version, tt)))))))
-      (tt, (tt, (x.frame_type, (x.total, (x.header_size_lem, (x.id, (x.version, tt))))))))
+      (bytes, (ceiling, (frame_type, (total, (header_size, (id, (version, tt)))))))
+      (tt, (tt, (x.frame_type, (x.total, (x.header_size, (x.id, (x.version, tt))))))))
       ≡ fact 𝓤 (CParses ceiling bytes.now x)
-  trpc_header_parse_ensures bytes ceiling frame_type total header_size_lem id version x = refl
+  trpc_header_parse_ensures bytes ceiling frame_type total header_size id version x = refl
 
   pub trpc_deframe_ensures : (held error : Bor ℕ) (buffer : Bor (List ℕ)) (ceiling : ℕ) (piece : Bor (List ℕ)) (taken size : Bor ℕ)
       (x : CDeframed)

@@ -18,9 +18,9 @@ use Rattle.thm_c.specs.Entries.{parsed_C, deframed_C, finished_C, read_C, writte
 pub all_parsed : (c : ℕ) (bytes : List ℕ) (x : CParsed) → CParses c bytes x → x ≡ parsed_C (parsed c bytes)
 all_parsed c bytes x is = by is.code_is is.type_is is.total_is is.header_size_is is.id_is is.version_is
   where
-    by : {code frame_type total header_size_lem id version : ℕ} → x.code ≡ code → x.frame_type ≡ frame_type → x.total ≡ total
-        → x.header_size_lem ≡ header_size_lem → x.id ≡ id → x.version ≡ version
-        → x ≡ record { code = code; frame_type = frame_type; total = total; header_size_lem = header_size_lem; id = id; version = version }
+    by : {code frame_type total header_size id version : ℕ} → x.code ≡ code → x.frame_type ≡ frame_type → x.total ≡ total
+        → x.header_size ≡ header_size → x.id ≡ id → x.version ≡ version
+        → x ≡ record { code = code; frame_type = frame_type; total = total; header_size = header_size; id = id; version = version }
     by a b c d e f = rw (← a, ← b, ← c, ← d, ← e, ← f)
 
 pub all_deframed : (c held error : ℕ) (buffer piece : List ℕ) (x : CDeframed) → CDeframes c held error buffer piece x

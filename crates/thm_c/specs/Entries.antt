@@ -34,7 +34,7 @@ parsed_C p =
       code = parsed_error p;
       frame_type = type_number (header_given p).frame_type;
       total = (header_given p).total;
-      header_size_lem = (header_given p).header_size;
+      header_size = (header_given p).header_size;
       id = (header_given p).id;
       version = (header_given p).version;
     }

@@ -13,7 +13,7 @@ pub record CParsed : Type 0 where
   pub code : ℕ
   pub frame_type : ℕ
   pub total : ℕ
-  pub header_size_lem : ℕ
+  pub header_size : ℕ
   pub id : ℕ
   pub version : ℕ
 
@@ -24,7 +24,7 @@ abbrev pub CChecks : (c : ℕ) → (bytes : List ℕ) (code : ℕ) → Type 0
 CChecks c bytes code = code ≡ header_error c bytes
 
 abbrev pub CParses : (c : ℕ) → (bytes : List ℕ) → CParsed → Type 0
-CParses c bytes x = ParsedAs c bytes x.code x.frame_type x.total x.header_size_lem x.id x.version
+CParses c bytes x = ParsedAs c bytes x.code x.frame_type x.total x.header_size x.id x.version
 
 -- ---- what the numbers say
 
@@ -39,7 +39,7 @@ header_from x =
     (Good (record {
       frame_type = type_from x.frame_type;
       total = x.total;
-      header_size = x.header_size_lem;
+      header_size = x.header_size;
       id = x.id;
       version = x.version;
     }))

@@ -24,9 +24,9 @@ use Rattle.refusals.proofs.Order.{Outcome, Numbered, end, unless, exactly, first
 use Rattle.thm_refusals.specs.Header.{byte, Unary, faults, header_grounds, header_check}
 
 module _ (h : List ℕ) where
-  data_type_lem : Finds (data_type_ok (byte h 3)) ((byte h 3 ≡ 0) ⊎ (byte h 3 ≡ 1))
+  data_type : Finds (data_type_ok (byte h 3)) ((byte h 3 ≡ 0) ⊎ (byte h 3 ≡ 1))
   unfolding data_type_ok
-  data_type_lem = reworded one_of (⊎_elim (λ (e : byte h 3 ≡ 0). omega arith) (λ (e : byte h 3 ≡ 1). omega arith)) (up_to (byte h 3) 1)
+  data_type = reworded one_of (⊎_elim (λ (e : byte h 3 ≡ 0). omega arith) (λ (e : byte h 3 ≡ 1). omega arith)) (up_to (byte h 3) 1)
     where
       one_of : byte h 3 ≤ 1 → (byte h 3 ≡ 0) ⊎ (byte h 3 ≡ 1)
       one_of l = by (eqb (byte h 3) 0) (equal (byte h 3) 0).told
@@ -49,7 +49,7 @@ module _ (c : ℕ) (h : List ℕ) where
   unfolding fault_of magic_ok stream_type_ok total_ok
   faults_outcome =
       unless (unlike (each (equal (byte h 1) 0x09) (equal (byte h 2) 0x30)))
-      (unless (unlike (data_type_lem h))
+      (unless (unlike (data_type h))
       (unless (unlike (either_found (equal (byte h 3) 0) (each (up_to 1 (byte h 4)) (up_to (byte h 4) 4))))
       (unless (unlike (each (up_to 16 (total_of h)) (up_to (total_of h) c)))
       (unless (unlike (header_size_lem h))

@@ -1,4 +1,6 @@
 // Whether bytes are UTF-8 by RFC 3629: shortest form, no surrogates, nothing above U+10FFFF.
+#![tactic(auto)]
+
 ghost use Rattle.std.specs.Prelude.{◌≡◌, ◌+◌, ◌≤◌, length, take, drop};
 ghost use Rattle.utf8.specs.Grammar as grammar;
 ghost use Rattle.utf8.specs.Ascii.{ascii};

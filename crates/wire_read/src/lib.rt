@@ -5,6 +5,8 @@
 // from `at` up to `end` that exist: none where `at` is past the end of the slice or not before `end`,
 // and up to the slice's end where `end` is past it. It reads nothing else. Every function takes all
 // arguments and ends.
+#![tactic(auto)]
+
 mod contents;
 mod parts;
 mod skipping;
@@ -23,14 +25,14 @@ use refusals::{BAD_TAG, BAD_VARINT, PAST_END, TOO_DEEP};
 use skipping::{skip_bytes, skip_fixed, skip_varint};
 
 // A varint's value and the next place; or the error code.
-#[derive(Drop)]
+#[derive(Clone, Copy)]
 pub enum Varint {
     Value(u64, usize),
     Refused(u32),
 }
 
 // A tag's field number, its wire type and the next place; the part is at its end; or the error code.
-#[derive(Drop)]
+#[derive(Clone, Copy)]
 pub enum Tag {
     Field(u32, u32, usize),
     End,
@@ -38,14 +40,14 @@ pub enum Tag {
 }
 
 // Where the bytes that a length announces start, and how many they are; or the error code.
-#[derive(Drop)]
+#[derive(Clone, Copy)]
 pub enum Length {
     Bytes(usize, usize),
     Refused(u32),
 }
 
 // The place after what was skipped; or the error code.
-#[derive(Drop)]
+#[derive(Clone, Copy)]
 pub enum Skip {
     Next(usize),
     Refused(u32),
@@ -53,7 +55,7 @@ pub enum Skip {
 
 // A field: its number first, then its value and the next place. Of bytes the start and the length:
 // the next place is their sum. A group is only skipped.
-#[derive(Drop)]
+#[derive(Clone, Copy)]
 pub enum Field {
     End,
     Varint(u32, u64, usize),

@@ -1,6 +1,8 @@
 // The fields of a message one after the other. Document 01: "The field walk is a reader that refers
 // to the lent header bytes with its place in them." Every function takes all arguments: a place past
 // the end of the bytes is their end.
+#![tactic(auto)]
+
 mod last;
 mod walk;
 
@@ -12,21 +14,21 @@ use last::later;
 use wire_read::Field;
 
 // Document 01's reader: the lent bytes and its place in them, where the next field is to start.
-#[derive(Drop)]
+#[derive(Clone, Copy)]
 pub struct FieldReader<'a> {
     pub bytes: &'a [u8],
     pub at: usize,
 }
 
 // What a reader found at its place, and the reader after it.
-#[derive(Drop)]
+#[derive(Clone, Copy)]
 pub struct Moved<'a> {
     pub field: Field,
     pub reader: FieldReader<'a>,
 }
 
 // What is at a place of the bytes, and the place after it.
-#[derive(Drop)]
+#[derive(Clone, Copy)]
 pub struct Step {
     pub field: Field,
     pub at: usize,

@@ -3,6 +3,8 @@
 //
 // A writer is given an output and a place in it. It writes all of its bytes from there; or it refuses,
 // and the output is untouched. Every function takes all arguments and ends.
+#![tactic(auto)]
+
 mod grounds;
 mod storing;
 
@@ -17,7 +19,7 @@ use storing::put_varint;
 
 // The next place of the output; or the refusal number: 11, the tag is bad, or 27, the output is
 // shorter than what is to be written.
-#[derive(Drop)]
+#[derive(Clone, Copy)]
 pub enum Written {
     Next(usize),
     Refused(u32),

@@ -2,10 +2,10 @@
 -- Assumes nothing.
 use mathlib.Core.Path.{refl}
 use Rattle.laws.specs.Asking.{AsksNothing}
-use Rattle.writer.proofs as entry
+use Rattle.writer.specs.contracts as entry
 
-pub write : AsksNothing entry.write.signature (λ M. entry.write.spec)
+pub write : AsksNothing entry.write.signature (λ M 𝓤. entry.write.spec)
 write M 𝓤 𝓛 mem run κs a = (tt, refl)
 
-pub write_slots : AsksNothing entry.write_slots.signature (λ M. entry.write_slots.spec)
+pub write_slots : AsksNothing entry.write_slots.signature (λ M 𝓤. entry.write_slots.spec)
 write_slots M 𝓤 𝓛 mem run κs a = (tt, refl)

@@ -3,7 +3,7 @@ ghost use Rattle.std.specs.Prelude.{◌≡◌, ◌+◌, ◌*◌, ◌≤◌, leng
 ghost use Rattle.writer.specs.Straight.{row_at};
 ghost use Rattle.writer.specs.Straight.{row_of};
 
-#[derive(Drop)]
+#[derive(Clone, Copy)]
 pub(crate) struct MapEntry {
     pub key: u32,
     pub key_size: u32,

@@ -1,4 +1,6 @@
 // The writer of frames: what a record, the bytes that its starts refer to, its rows and a body are as one of six kinds.
+#![tactic(auto)]
+
 mod bounds;
 mod encode;
 mod entry;
@@ -16,7 +18,7 @@ use records::{Record, slots_of};
 use schema::Kind;
 
 // How many bytes the frame has that was written, or the error code.
-#[derive(Drop)]
+#[derive(Clone, Copy)]
 pub enum Encoded {
     Frame(usize),
     Refused(u32),

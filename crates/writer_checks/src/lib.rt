@@ -1,4 +1,6 @@
 // The grounds on which a record is refused before the size of its frame is known.
+#![tactic(auto)]
+
 mod fields;
 mod keys;
 mod rows;

@@ -10,16 +10,16 @@ use lib.Dec.{eqb, leb}
 use Rattle.fixed_header.specs.Header.{header_size_ok}
 use Rattle.fixed_header.proofs.header.header_size_ok.Goals as goal
 
-module _ (data_type_lem content size most : ℕ) where
-  unary : data_type_lem ≡ 0 → most ≡ content → leb size most ≡ header_size_ok data_type_lem (content + 16) size
+module _ (data_type content size most : ℕ) where
+  unary : data_type ≡ 0 → most ≡ content → leb size most ≡ header_size_ok data_type (content + 16) size
   unfolding header_size_ok
   unary d e =
       let same : content + 16 - 16 ≡ content = omega arith in
-      rw (eq-eqb data_type_lem 0 d, e, same)
+      rw (eq-eqb data_type 0 d, e, same)
 
-  stream : (data_type_lem ≡ 0 → ⊥) → most ≡ 0 → leb size most ≡ header_size_ok data_type_lem (content + 16) size
+  stream : (data_type ≡ 0 → ⊥) → most ≡ 0 → leb size most ≡ header_size_ok data_type (content + 16) size
   unfolding header_size_ok
-  stream d e = rw (ne_eqb data_type_lem 0 d, e) (by (ℕ_discrete size 0))
+  stream d e = rw (ne_eqb data_type 0 d, e) (by (ℕ_discrete size 0))
     where
       by : Dec (size ≡ 0) → leb size 0 ≡ eqb size 0
       by (yes z) = le-leb size 0 (omega arith) ∙ sym (eq-eqb size 0 z)

@@ -11,9 +11,9 @@ use Rattle.laws.proofs.Booleans.{both}
 use Rattle.fixed_header.specs.Header.{total_ok, header_size_ok, size_fault}
 use Rattle.fixed_header.proofs.header.size_fault.Goals as goal
 
-module _ (c data_type_lem total size content : ℕ) (small : content < 2 ^ 32) (wraps : (content + 16) % 2 ^ 32 ≡ total)
+module _ (c data_type total size content : ℕ) (small : content < 2 ^ 32) (wraps : (content + 16) % 2 ^ 32 ≡ total)
     {ok : Bool} (total_is : ok ≡ total_ok c ((content + 16) % 2 ^ 32)) where
-  bad-total : ok ≡ false → 6 ≡ size_fault c data_type_lem total size
+  bad-total : ok ≡ false → 6 ≡ size_fault c data_type total size
   bad-total e = let t : total_ok c total ≡ false = ap (total_ok c) (sym wraps) ∙ sym total_is ∙ e in rw t
 
   module _ (kept : ok ≡ true) where
@@ -24,11 +24,11 @@ module _ (c data_type_lem total size content : ℕ) (small : content < 2 ^ 32) (
     unfolding total_ok
     same = let low : 16 ≤ total = leb-true _ _ (both (leb 16 total) (leb total c) good).0 in omega (arith, wraps)
 
-    module _ {fits : Bool} (fits-is : fits ≡ header_size_ok data_type_lem (content + 16) size) where
-      size_is : header_size_ok data_type_lem total size ≡ fits
-      size_is = ap (λ (n : ℕ). header_size_ok data_type_lem n size) (sym same) ∙ sym fits-is
+    module _ {fits : Bool} (fits-is : fits ≡ header_size_ok data_type (content + 16) size) where
+      size_is : header_size_ok data_type total size ≡ fits
+      size_is = ap (λ (n : ℕ). header_size_ok data_type n size) (sym same) ∙ sym fits-is
 
-      by_size : (b : Bool) → fits ≡ b → cond b 0 7 ≡ size_fault c data_type_lem total size
+      by_size : (b : Bool) → fits ≡ b → cond b 0 7 ≡ size_fault c data_type total size
       by_size b e = rw (good, size_is, e)
 
 pub returns-then-not-total_ok : goal.returns-then-not-total_ok

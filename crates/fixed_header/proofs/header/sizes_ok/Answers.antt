@@ -19,28 +19,28 @@ later : (b : Bool) → false ≡ b && false
 later true = refl
 later false = refl
 
-module _ (c data_type_lem total size : ℕ) where
-  over : c < total → false ≡ total_ok c total && header_size_ok data_type_lem total size
+module _ (c data_type total size : ℕ) where
+  over : c < total → false ≡ total_ok c total && header_size_ok data_type total size
   unfolding total_ok
-  over h = rw (lt-leb total c h) (never (leb 16 total) (header_size_ok data_type_lem total size))
+  over h = rw (lt-leb total c h) (never (leb 16 total) (header_size_ok data_type total size))
 
-  lacking : total < 16 + size → false ≡ total_ok c total && header_size_ok data_type_lem total size
+  lacking : total < 16 + size → false ≡ total_ok c total && header_size_ok data_type total size
   unfolding total_ok header_size_ok
-  lacking h = by (dec_lt total 16) (ℕ_discrete data_type_lem 0)
+  lacking h = by (dec_lt total 16) (ℕ_discrete data_type 0)
     where
-      by : Dec (total < 16) → Dec (data_type_lem ≡ 0) → false ≡ total_ok c total && header_size_ok data_type_lem total size
+      by : Dec (total < 16) → Dec (data_type ≡ 0) → false ≡ total_ok c total && header_size_ok data_type total size
       by (yes p) d = rw (lt-leb 16 total p)
-      by (no p) (yes d) = rw (eq-eqb data_type_lem 0 d, lt-leb size (total - 16) (omega arith)) (later (leb 16 total && leb total c))
-      by (no p) (no d) = rw (ne_eqb data_type_lem 0 d, ne_eqb size 0 (λ e. omega arith)) (later (leb 16 total && leb total c))
+      by (no p) (yes d) = rw (eq-eqb data_type 0 d, lt-leb size (total - 16) (omega arith)) (later (leb 16 total && leb total c))
+      by (no p) (no d) = rw (ne_eqb data_type 0 d, ne_eqb size 0 (λ e. omega arith)) (later (leb 16 total && leb total c))
 
   module _ (fits : total ≤ c) (holds : 16 + size ≤ total) where
-    unary : data_type_lem ≡ 0 → true ≡ total_ok c total && header_size_ok data_type_lem total size
+    unary : data_type ≡ 0 → true ≡ total_ok c total && header_size_ok data_type total size
     unfolding total_ok header_size_ok
-    unary d = rw (le-leb 16 total (omega arith), le-leb total c fits, eq-eqb data_type_lem 0 d, le-leb size (total - 16) (omega arith))
+    unary d = rw (le-leb 16 total (omega arith), le-leb total c fits, eq-eqb data_type 0 d, le-leb size (total - 16) (omega arith))
 
-    stream : (data_type_lem ≡ 0 → ⊥) → eqb size 0 ≡ total_ok c total && header_size_ok data_type_lem total size
+    stream : (data_type ≡ 0 → ⊥) → eqb size 0 ≡ total_ok c total && header_size_ok data_type total size
     unfolding total_ok header_size_ok
-    stream d = rw (le-leb 16 total (omega arith), le-leb total c fits, ne_eqb data_type_lem 0 d)
+    stream d = rw (le-leb 16 total (omega arith), le-leb total c fits, ne_eqb data_type 0 d)
 
 pub returns-then-ceiling-total : goal.returns-then-ceiling-total
 returns-then-ceiling-total c = over _ _ _ _ c.if-ceiling-total.true

@@ -9,10 +9,10 @@ use Rattle.laws.proofs.Tests.{fails, holds}
 use Rattle.fixed_header.specs.Header.{data_type_ok, stream_type_ok}
 use Rattle.fixed_header.proofs.header.type_fault.Goals as goal
 
-one : (data_type_lem stream_type_lem : ℕ) → (data_type_lem ≡ 0 → ⊥) → data_type_lem ≤ 1 → stream_type_ok 1 stream_type_lem ≡ stream_type_ok data_type_lem stream_type_lem
-one data_type_lem stream_type_lem n h =
-    let is : data_type_lem ≡ 1 = omega arith in
-    ap (λ (d : ℕ). stream_type_ok d stream_type_lem) (sym is)
+one : (data_type stream_type : ℕ) → (data_type ≡ 0 → ⊥) → data_type ≤ 1 → stream_type_ok 1 stream_type ≡ stream_type_ok data_type stream_type
+one data_type stream_type n h =
+    let is : data_type ≡ 1 = omega arith in
+    ap (λ (d : ℕ). stream_type_ok d stream_type) (sym is)
 
 pub returns-then-not-magic_ok : goal.returns-then-not-magic_ok
 returns-then-not-magic_ok c = rw (fails c.magic_ok.ensures c.if-not-magic_ok.true-raw)
@@ -28,7 +28,7 @@ unfolding data_type_ok
 returns-then-data_type-gt1 c =
     let at-if1 = c in
     let at-magic = at-if1 in
-    let over : 1 < at-magic.args.data_type_lem = omega arith in
+    let over : 1 < at-magic.args.data_type = omega arith in
     rw (holds at-magic.magic_ok.ensures at-if1.if-not-magic_ok.false-raw, lt-leb _ _ over)
 
 pub returns-then-not-stream_type_ok : goal.returns-then-not-stream_type_ok
@@ -38,8 +38,8 @@ returns-then-not-stream_type_ok c =
     let at-if1 = at-if2 in
     let args = at-if1.args in
     let magic = holds at-if1.magic_ok.ensures at-if1.if-not-magic_ok.false-raw in
-    let within : args.data_type_lem ≤ 1 = omega arith in
-    let type_is = one args.data_type_lem args.stream_type_lem at-if2.if-data_type-eq0.false within in
+    let within : args.data_type ≤ 1 = omega arith in
+    let type_is = one args.data_type args.stream_type at-if2.if-data_type-eq0.false within in
     rw (magic, le-leb _ _ within, ← type_is, fails c.stream_type_ok.ensures c.if-not-stream_type_ok.true-raw)
 
 pub returns : goal.returns
@@ -49,6 +49,6 @@ returns c =
     let at-if1 = at-if2 in
     let args = at-if1.args in
     let magic = holds at-if1.magic_ok.ensures at-if1.if-not-magic_ok.false-raw in
-    let within : args.data_type_lem ≤ 1 = omega arith in
-    let type_is = one args.data_type_lem args.stream_type_lem at-if2.if-data_type-eq0.false within in
+    let within : args.data_type ≤ 1 = omega arith in
+    let type_is = one args.data_type args.stream_type at-if2.if-data_type-eq0.false within in
     rw (magic, le-leb _ _ within, ← type_is, holds c.stream_type_ok.ensures c.if-not-stream_type_ok.false-raw)

@@ -23,8 +23,8 @@ returns c =
     let digits = four_digits 0x09 0x30 (data_type_of t) (stream_type_of t) (omega arith) (omega arith) (small t).0 (small t).1 in
     rw (
       at_low.put_low.ensures,
-      at-stream.stream_type_lem.ensures,
-      at-stream.data_type_lem.ensures,
+      at-stream.stream_type.ensures,
+      at-stream.data_type.ensures,
       digits.0,
       digits.1,
       digits.2,
