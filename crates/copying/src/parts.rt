@@ -1,5 +1,5 @@
 // Copies of any length, in parts. A part goes through a local array, which overlaps nothing: so the compiler makes the two loops of
-// `bytes::copy` one call of memmove, and leaves the array out.
+// `copy_from_slice` one call of memmove, and leaves the array out.
 ghost use Rattle.std.specs.Prelude.{◌≡◌, ◌++◌, ◌+◌, ◌≤◌, ◌<◌, length, drop};
 
 // Copies the source to the start of the output.
@@ -7,9 +7,10 @@ pub(crate) fn copy_part(source: &[u8], out: &mut [u8])
     requires { (length source.now ≤ 4096) × (length source.now ≤ length out.old) }
     ensures { out.new ≡ source.now ++ drop (length source.now) out.old }
 {
+    let n = source.len();
     let mut local = [0; 4096];
-    let n = bytes::copy(source, &mut local);
-    bytes::copy(&local[..n], out);
+    local[..n].copy_from_slice(source);
+    out[..n].copy_from_slice(&local[..n]);
 }
 
 // Where the part ends that starts at i.

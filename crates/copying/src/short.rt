@@ -32,6 +32,6 @@ pub(crate) fn copy_short(source: &[u8], out: &mut [u8])
     } else if 4 <= n {
         copy_ends(source, out, 4);
     } else {
-        bytes::copy(source, out);
+        out[..n].copy_from_slice(source);
     }
 }

@@ -5,9 +5,7 @@ use mathlib.Core.Bool.{Bool, true, false}
 use lib.Dec.{leb}
 use native.Mathlib.Omega.{arith}
 use borrow.Author.Tests.{le-leb, lt-leb, leb-true, leb-false}
-use borrow.Author.Rules.{rules}
-use Rattle.copying.proofs.has_room.Statement.{statement}
-use Rattle.copying.proofs.has_room.Tie as tie
+use Rattle.copying.proofs.has_room.Goals as goal
 
 sooner : (at size len : ℕ) → at ≤ len → leb size (len - at) ≡ leb (at + size) len
 sooner at size len h = by (leb size (len - at)) refl
@@ -19,8 +17,10 @@ sooner at size len h = by (leb size (len - at)) refl
 past : (at size len : ℕ) → len < at → false ≡ leb (at + size) len
 past at size len h = sym (lt-leb (at + size) len (omega arith))
 
-pub has-room-spec : {M : Type 1} → statement M
-has-room-spec = tie.close
-    (tie.spec (λ c. search rules)
-    (λ c. sooner _ _ _ c.if1.true)
-    (λ c. past _ _ _ c.if1.false))
+pub returns-then-at-out : goal.returns-then-at-out
+returns-then-at-out c =
+    sooner _ _ _ c.if-at-out.true
+
+pub returns-else-at-out : goal.returns-else-at-out
+returns-else-at-out c =
+    past _ _ _ c.if-at-out.false
