@@ -1,4 +1,5 @@
 -- `read_tag` meets its contract. A part that is not at its end starts with a varint, and the tag of its value is where it is.
+-- the tag of a value is where its varint is
 use Prim.Native.Nat.{ℕ, ◌+◌, ◌-◌, ◌/◌, ◌%◌, ◌^◌, ◌<◌, ◌≤◌, min}
 use mathlib.Core.Path.{◌≡◌, refl, sym, ap, ◌∙◌}
 use mathlib.Core.Bool.{Bool, true, false, cond, ◌&&◌}
@@ -6,7 +7,6 @@ use mathlib.Core.List.{List}
 use lib.ListN.{length}
 use lib.Dec.{ltb}
 use native.Mathlib.Omega.{arith}
-use borrow.Author.Rules.{rules}
 use Rattle.wire_read.specs.Part.{part}
 use Rattle.wire_read.specs.Placed.{varint_at, tag_at}
 use Rattle.wire_read.specs.Tags.{field, tag_error, split, tag}
@@ -17,10 +17,8 @@ use Rattle.wire_read.specs.declared.Varint.TheVariants as varints
 use Rattle.wire_read.specs.declared.Varint.{Varint}
 use Rattle.wire_read.proofs.PartLaws.{part_empty, part_cons}
 use Rattle.wire_read.proofs.Answers.{is_bad_lem, is_got}
-use Rattle.wire_read.proofs.read_tag.Statement.{statement}
-use Rattle.wire_read.proofs.read_tag.Tie as tie
+use Rattle.wire_read.proofs.read_tag.Goals as goal
 
--- the tag of a value is where its varint is
 split_at : (at v used : ℕ) → tag_at (at + used) (split (got v 0)) ≡ tag_at at (split (got v used))
 unfolding split tag_at
 split_at at v used = by (ltb v (2 ^ 32) && (ltb 0 (v / 8) && ltb (v % 8) 6))
@@ -51,26 +49,16 @@ module _ (s : List ℕ) (at end stop : ℕ) (is_stop : stop ≡ min end (length 
         ap (λ (x : ℕ). tag_at x (split (got v 0))) g.1 in
         rw (by-varint, g.0) (is-t ∙ sym p ∙ split_at at v (after - at))
 
-returns-2 : tie.Need-returns-2
-returns-2 c =
-    let at-read-varint = c.before.before.before in
-    let at-if1 = at-read-varint.before in
-    let at-part-end = at-if1.before in
-    bad_varint_lem _ _ _ _ at-part-end.part-end.ensures at-if1.if1.false _ at-read-varint.read_varint.ensures _
-    c.before.v.given.1
+pub returns-in-Refused : goal.returns-in-Refused
+returns-in-Refused c =
+    bad_varint_lem _ _ _ _ c.part_end.ensures c.if-part_end-at.false _ c.read_varint-v.ensures _
+    c.in-Refused.is
 
-returns-3 : tie.Need-returns-3
-returns-3 c =
-    let at-v2 = c.before.before in
-    let at-read-varint = at-v2.before.before in
-    let at-if1 = at-read-varint.before in
-    let at-part-end = at-if1.before in
-    tag_of _ _ _ _ at-part-end.part-end.ensures at-if1.if1.false _ at-read-varint.read_varint.ensures _ _
-    at-v2.v2.given.1 _ c.split-tag.ensures
+pub returns-in-Value : goal.returns-in-Value
+returns-in-Value c =
+    tag_of _ _ _ _ c.part_end.ensures c.if-part_end-at.false _ c.read_varint-v.ensures _ _
+    c.in-Value.is _ c.split_tag.ensures
 
-pub read-tag-spec : {M : Type 1} → statement M
-read-tag-spec =
-    tie.close
-    (tie.spec (λ c κs. search rules)
-    (λ c. at_end _ _ _ _ c.before.part-end.ensures c.if1.true)
-    (λ c κs. search rules) (λ c. search rules) (λ c. search rules) (λ c κs. search rules) returns-2 returns-3)
+pub returns-then-part_end-at : goal.returns-then-part_end-at
+returns-then-part_end-at c =
+    at_end _ _ _ _ c.part_end.ensures c.if-part_end-at.true

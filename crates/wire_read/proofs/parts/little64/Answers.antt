@@ -4,11 +4,9 @@ use mathlib.Core.Path.{◌≡◌}
 use mathlib.Core.List.{List}
 use lib.ListN.{length, take, drop}
 use native.Mathlib.Omega.{arith}
-use borrow.Author.Rules.{rules}
 use Rattle.wire_read.specs.Fields.{little_endian}
 use Rattle.wire_read.proofs.LittleEndian.{little_four, little_none}
-use Rattle.wire_read.proofs.parts.little64.Statement.{statement}
-use Rattle.wire_read.proofs.parts.little64.Tie as tie
+use Rattle.wire_read.proofs.parts.little64.Goals as goal
 
 eight-bytes : (s : List ℕ) (at : ℕ) → at + 8 ≤ length s → (low high : ℕ) → low ≡ little_endian (take 4 (drop at s))
     → high ≡ little_endian (take 4 (drop (at + 4) s))
@@ -16,9 +14,6 @@ eight-bytes : (s : List ℕ) (at : ℕ) → at + 8 ≤ length s → (low high : 
 eight-bytes s at h low high el eh =
     omega (arith, little_four s at 0 (omega arith), little_four s at 4 (omega arith), little_none)
 
-pub little64-spec : {M : Type 1} → statement M
-little64-spec =
-    tie.close
-    (tie.spec (λ c κs. search rules) (λ c. search rules) (λ c. search rules) (λ c κs. search rules) (λ c. search rules)
-    (λ c. search rules) (λ c. search rules)
-    (λ c. eight-bytes _ _ c.before.before.before.requires _ _ c.before.little32.ensures c.little322.ensures))
+pub returns : goal.returns
+returns c =
+    eight-bytes _ _ c.requires _ _ c.little32-low.ensures c.little32-high.ensures

@@ -8,13 +8,11 @@ use lib.Dec.{ltb}
 use native.Mathlib.Nat.{add-zero}
 use native.Mathlib.Omega.{arith}
 use borrow.Author.Tests.{lt-ltb, le-ltb}
-use borrow.Author.Rules.{rules}
 use Rattle.wire_read.specs.Placed.{tag_at}
 use Rattle.wire_read.specs.Tags.{split}
 use Rattle.wire_read.specs.Varint.{got}
 use Rattle.wire_read.specs.declared.Tag.TheVariants.{Field, Refused}
-use Rattle.wire_read.proofs.split_tag.Statement.{statement}
-use Rattle.wire_read.proofs.split_tag.Tie as tie
+use Rattle.wire_read.proofs.split_tag.Goals as goal
 
 module _ (v after : ℕ) where
   low_bits : bit_and v 7 ≡ v % 8
@@ -41,10 +39,18 @@ module _ (v after : ℕ) where
       let w' : 6 ≤ v % 8 = rw low_bits at w in
       refusal (rw (lt-ltb v (2 ^ 32) (omega arith), lt-ltb 0 (v / 8) b, le-ltb (v % 8) 6 w'))
 
-pub split-tag-spec : {M : Type 1} → statement M
-split-tag-spec = tie.close
-    (tie.spec (λ c. search rules) (λ c. search rules)
-    (λ c. good _ _ c.before.before.if1.true c.before.if2.true c.if3.true)
-    (λ c. bad-type _ _ c.before.before.if1.true c.before.if2.true c.if3.false)
-    (λ c. bad-number _ _ c.before.if1.true c.if2.false)
-    (λ c. too_large _ _ c.if1.false))
+pub returns-then-wire_type-lt6 : goal.returns-then-wire_type-lt6
+returns-then-wire_type-lt6 c =
+    good _ _ c.if-value-le4294967295.true c.if-number-gt0.true c.if-wire_type-lt6.true
+
+pub returns-else-wire_type-lt6 : goal.returns-else-wire_type-lt6
+returns-else-wire_type-lt6 c =
+    bad-type _ _ c.if-value-le4294967295.true c.if-number-gt0.true c.if-wire_type-lt6.false
+
+pub returns-else-number-gt0 : goal.returns-else-number-gt0
+returns-else-number-gt0 c =
+    bad-number _ _ c.if-value-le4294967295.true c.if-number-gt0.false
+
+pub returns-else-value-le4294967295 : goal.returns-else-value-le4294967295
+returns-else-value-le4294967295 c =
+    too_large _ _ c.if-value-le4294967295.false

@@ -5,14 +5,15 @@ use lib.Dec.{lit<}
 use native.Mathlib.Omega.{arith}
 use mir.Syntax.{w32}
 use mir.Val.{Fits}
-use Rattle.wire_read.proofs.low_u32.Statement.{statement}
-use Rattle.wire_read.proofs.low_u32.Tie as tie
+use Rattle.wire_read.proofs.low_u32.Goals as goal
 
 masked : (v mask : ℕ) → mask < 4294967296 → Fits w32 (bit_and v mask)
 masked v mask h = record { fits = omega (arith, and_le_r v mask) }
 
-pub low-u32-spec : {M : Type 1} → statement M
-low-u32-spec = tie.close
-    (tie.spec
-    (λ c. masked c.args.v _ (lit< tt))
-    (λ c. and_mask c.args.v 32))
+pub overflow_cast-result : goal.overflow_cast-result
+overflow_cast-result c =
+    masked c.args.v _ (lit< tt)
+
+pub returns : goal.returns
+returns c =
+    and_mask c.args.v 32

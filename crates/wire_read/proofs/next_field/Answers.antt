@@ -3,7 +3,6 @@ use Prim.Native.Nat.{ℕ, ◌+◌, ◌-◌}
 use mathlib.Core.Path.{◌≡◌, sym, ◌∙◌}
 use mathlib.Core.List.{List}
 use lib.ListN.{drop}
-use borrow.Author.Rules.{rules}
 use Rattle.wire_read.specs.Fields.{no_field, field_error, content, field_after, next_field}
 use Rattle.wire_read.specs.Part.{part}
 use Rattle.wire_read.specs.Placed.{tag_at, field_at}
@@ -14,8 +13,7 @@ use Rattle.wire_read.specs.declared.Tag.TheVariants as tags
 use Rattle.wire_read.specs.declared.Tag.{Tag}
 use Rattle.wire_read.proofs.PartLaws.{part_drop}
 use Rattle.wire_read.proofs.Answers.{is_no_tag, is_tag_error, is_field, field_at_after}
-use Rattle.wire_read.proofs.next_field.Statement.{statement}
-use Rattle.wire_read.proofs.next_field.Tie as tie
+use Rattle.wire_read.proofs.next_field.Goals as goal
 
 module _ (s : List ℕ) (at end : ℕ) (t : Tag) (is-t : t ≡ tag_at at (tag (part s at end))) where
   at_end : t ≡ tags.End → fields.End ≡ field_at at (next_field (part s at end))
@@ -46,16 +44,14 @@ module _ (s : List ℕ) (at end : ℕ) (t : Tag) (is-t : t ≡ tag_at at (tag (p
         g.1,
       ))
 
-returns-3 : tie.Need-returns-3
-returns-3 c =
-    let at-t2 = c.before.before in
-    let at-read-tag = at-t2.before.before in
-    field_of _ _ _ _ at-read-tag.read_tag.ensures _ _ _ at-t2.t2.given.1 _ c.content-at.ensures
+pub returns-in-Field : goal.returns-in-Field
+returns-in-Field c =
+    field_of _ _ _ _ c.read_tag-t.ensures _ _ _ c.in-Field.is _ c.content_at.ensures
 
-pub next-field-spec : {M : Type 1} → statement M
-next-field-spec =
-    tie.close
-    (tie.spec (λ c κs. search rules) (λ c. search rules) (λ c. search rules) (λ c. search rules) (λ c κs. search rules)
-    (λ c. at_end _ _ _ _ c.before.before.read_tag.ensures c.enum_told.given.1)
-    (λ c. bad_tag_lem _ _ _ _ c.before.before.before.read_tag.ensures _ c.before.t.given.1)
-    returns-3)
+pub returns-in-End : goal.returns-in-End
+returns-in-End c =
+    at_end _ _ _ _ c.read_tag-t.ensures c.in-End.is
+
+pub returns-in-Refused : goal.returns-in-Refused
+returns-in-Refused c =
+    bad_tag_lem _ _ _ _ c.read_tag-t.ensures _ c.in-Refused.is

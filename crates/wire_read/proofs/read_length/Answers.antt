@@ -5,7 +5,6 @@ use mathlib.Core.List.{List}
 use lib.ListN.{length}
 use native.Mathlib.Omega.{arith}
 use borrow.Author.Tests.{le-leb, lt-leb}
-use borrow.Author.Rules.{rules}
 use Rattle.wire_read.specs.Part.{part}
 use Rattle.wire_read.specs.Placed.{varint_at, length_at}
 use Rattle.wire_read.specs.Tags.{length_within, length_prefix}
@@ -16,8 +15,7 @@ use Rattle.wire_read.specs.declared.Varint.{Varint}
 use Rattle.wire_read.proofs.PartLaws.{part_length}
 use Rattle.wire_read.proofs.Answers.{is_bad_lem, is_got}
 use Rattle.wire_read.proofs.Places.{value_place}
-use Rattle.wire_read.proofs.read_length.Statement.{statement}
-use Rattle.wire_read.proofs.read_length.Tie as tie
+use Rattle.wire_read.proofs.read_length.Goals as goal
 
 module _ (s : List ℕ) (at end stop : ℕ) (is_stop : stop ≡ min end (length s)) (r : Varint)
     (is_r : r ≡ varint_at at (varint (part s at end))) where
@@ -41,37 +39,21 @@ module _ (s : List ℕ) (at end stop : ℕ) (is_stop : stop ≡ min end (length 
     unfolding length_prefix length_within length_at
     too_long h = let g = is_got at (varint (part s at end)) is_r e in rw (g.0, left, lt-leb size (stop - start) h)
 
-sub-if1 : tie.Need-overflow-sub-if1
-sub-if1 c =
-    let at-read-varint = c.before.before.before in
-    let at-part-end = at-read-varint.before in
+pub overflow_sub-stop : goal.overflow_sub-stop
+overflow_sub-stop c =
     omega
-    (arith, in_part _ _ _ _ at-part-end.part-end.ensures _ at-read-varint.read_varint.ensures _ _ c.before.v2.given.1)
+    (arith, in_part _ _ _ _ c.part_end-stop.ensures _ c.read_varint-v.ensures _ _ c.in-Value.is)
 
-returns : tie.Need-returns
-returns c =
-    let at-read-varint = c.before.before.before in
-    let at-part-end = at-read-varint.before in
-    bad_varint_lem _ _ _ _ at-part-end.part-end.ensures _ at-read-varint.read_varint.ensures _ c.before.v.given.1
+pub returns-in-Refused : goal.returns-in-Refused
+returns-in-Refused c =
+    bad_varint_lem _ _ _ _ c.part_end-stop.ensures _ c.read_varint-v.ensures _ c.in-Refused.is
 
-returns-2 : tie.Need-returns-2
-returns-2 c =
-    let at-v2 = c.before.before in
-    let at-read-varint = at-v2.before.before in
-    let at-part-end = at-read-varint.before in
-    announced _ _ _ _ at-part-end.part-end.ensures _ at-read-varint.read_varint.ensures _ _ at-v2.v2.given.1
-    c.if1.true
+pub returns-then-size-stop : goal.returns-then-size-stop
+returns-then-size-stop c =
+    announced _ _ _ _ c.part_end-stop.ensures _ c.read_varint-v.ensures _ _ c.in-Value.is
+    c.if-size-stop.true
 
-returns-3 : tie.Need-returns-3
-returns-3 c =
-    let at-v2 = c.before.before in
-    let at-read-varint = at-v2.before.before in
-    let at-part-end = at-read-varint.before in
-    too_long _ _ _ _ at-part-end.part-end.ensures _ at-read-varint.read_varint.ensures _ _ at-v2.v2.given.1
-    c.if1.false
-
-pub read-length-spec : {M : Type 1} → statement M
-read-length-spec =
-    tie.close
-    (tie.spec (λ c κs. search rules) (λ c κs. search rules) (λ c. search rules) (λ c. search rules) sub-if1 returns returns-2
-    returns-3)
+pub returns-else-size-stop : goal.returns-else-size-stop
+returns-else-size-stop c =
+    too_long _ _ _ _ c.part_end-stop.ensures _ c.read_varint-v.ensures _ _ c.in-Value.is
+    c.if-size-stop.false
