@@ -6,15 +6,8 @@ use lib.ListN.{length}
 use native.Mathlib.Omega.{arith}
 use Rattle.wire_write.specs.Writing.{shortest, put_varint}
 use Rattle.wire_write.proofs.Encoding.{shortest_last, shortest_more, left_fits}
-use Rattle.wire_write.proofs.varint_len.Statement.{statement}
-use Rattle.wire_write.proofs.varint_len.Tie as tie
-
--- `n` bytes with the one to come, and what is left takes at most `room` bytes more
-record Counting (v rest n : ℕ) : Type 0 where
-  room : ℕ
-  fits : rest < 2 * 128 ^ room
-  count : n + room ≡ 10
-  left : n + length (shortest (suc room) rest) ≡ length (put_varint v) + 1
+use Rattle.wire_write.proofs.varint_len.Invariants.{Counting}
+use Rattle.wire_write.proofs.varint_len.Goals as goal
 
 start : (v : ℕ) → v < 18446744073709551616 → Counting v v 1
 unfolding put_varint
@@ -37,18 +30,22 @@ again v rest n k h = step k.room k.fits k.count k.left
 counted : (v rest n : ℕ) → Counting v rest n → rest < 128 → n ≡ length (put_varint v)
 counted v rest n k h = omega (arith, rw (shortest_last k.room rest h) at k.left)
 
-abbrev invariant-loop : tie.invariant-loop
-invariant-loop v rest₀ n₀ rest n = Counting v rest n
+pub loop-rest-init : goal.loop-rest-init
+loop-rest-init c =
+    start _ (omega arith)
 
-abbrev decreases-loop : tie.decreases-loop
-decreases-loop v rest₀ n₀ rest n = rest
+pub overflow_add-n : goal.overflow_add-n
+overflow_add-n c =
+    omega (arith, c.loop-rest.invariant.count)
 
-pub varint-len-spec : {M : Type 1} → statement M
-varint-len-spec =
-    tie.close
-    (tie.spec invariant-loop decreases-loop
-    (λ c. start _ (omega arith))
-    (λ c. omega (arith, c.before.loop.invariant.count))
-    (λ c. omega arith)
-    (λ c. again _ _ _ c.before.loop.invariant c.loop-test.true)
-    (λ c. counted _ _ _ c.before.loop.invariant c.loop-test.false))
+pub loop-rest-smaller : goal.loop-rest-smaller
+loop-rest-smaller c =
+    omega arith
+
+pub loop-rest-preserved : goal.loop-rest-preserved
+loop-rest-preserved c =
+    again _ _ _ c.loop-rest.invariant c.loop-rest-test.true
+
+pub returns : goal.returns
+returns c =
+    counted _ _ _ c.loop-rest.invariant c.loop-rest-test.false

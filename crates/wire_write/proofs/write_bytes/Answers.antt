@@ -7,7 +7,6 @@ use mathlib.Core.List.{List, ◌++◌}
 use lib.ListN.{length, length-append}
 use lib.Dec.{leb}
 use native.Mathlib.Omega.{arith}
-use borrow.Author.Rules.{rules}
 use Rattle.copying.specs.Stored.{fits, stored}
 use Rattle.copying.proofs.Outputs.{stored_then, length_stored}
 use Rattle.wire_write.specs.Writing.{put_varint, put_tag, put_bytes, good_tag, first_ground, written_at, tag_stored, tag_written}
@@ -15,8 +14,7 @@ use Rattle.wire_write.specs.declared.Written.{Written}
 use Rattle.wire_write.specs.declared.Written.TheVariants.{Refused}
 use Rattle.wire_write.proofs.Encoding.{varint_bounds}
 use Rattle.wire_write.proofs.Outputs.{written, tag_refused, tag_fits, tag_written_lem, tag_stored_lem}
-use Rattle.wire_write.proofs.write_bytes.Statement.{statement}
-use Rattle.wire_write.proofs.write_bytes.Tie as tie
+use Rattle.wire_write.proofs.write_bytes.Goals as goal
 
 short : (v n : ℕ) → n ≡ length (put_varint v) → n ≤ 10
 short v n e = omega (arith, varint_bounds v)
@@ -83,68 +81,37 @@ module _ (out : List ℕ) (at n : ℕ) (content : List ℕ) (k l : ℕ) (is-k : 
               ∙ sym (tag_stored_lem n 2 out at field good room is-good is-fits error is-error none),
         )
 
-returns : tie.Need-returns
+pub returns-then-error-ne0 : goal.returns-then-error-ne0
+returns-then-error-ne0 c =
+    let args = c.args in
+    refuses args.out.now args.at args.number args.content.now _ _ c.varint_len.ensures
+    c.varint_len-2.ensures _
+    c.has_room_for_both-room.ensures _ c.good_tag.ensures _ c.first_ground-error.ensures c.if-error-ne0.true
+
+pub put_varint-behind_tag-requires : goal.put_varint-behind_tag-requires
+put_varint-behind_tag-requires c =
+    let args = c.args in
+    first args.out.now args.at args.number args.content.now _ _ c.varint_len.ensures
+    c.varint_len-2.ensures _
+    c.has_room_for_both-room.ensures _ c.good_tag.ensures _ c.first_ground-error.ensures c.if-error-ne0.false
+
+pub put_varint-start-requires : goal.put_varint-start-requires
+put_varint-start-requires c =
+    let args = c.args in
+    second args.out.now args.at args.number args.content.now _ _ c.varint_len.ensures
+    c.varint_len-2.ensures _
+    c.has_room_for_both-room.ensures _ c.good_tag.ensures _ c.first_ground-error.ensures c.if-error-ne0.false
+    _ c.put_varint-behind_tag.ensures.0 _ c.put_varint-behind_tag.ensures.1
+
+pub returns : goal.returns
 returns c =
-    let at-first-ground = c.before in
-    let at-good-tag = at-first-ground.before in
-    let at_room = at-good-tag.before in
-    let at-varint-len2 = at_room.before.before in
-    let at-varint-len = at-varint-len2.before in
-    let args = at-varint-len.before.before.before.args in
-    refuses args.out.now args.at args.number args.content.now _ _ at-varint-len.varint_len.ensures
-    at-varint-len2.varint-len2.ensures _
-    at_room.has-room-for-both.ensures _ at-good-tag.good_tag_lem.ensures _ at-first-ground.first-ground.ensures c.if1.true
+    let args = c.args in
+    done args.out.now args.at args.number args.content.now _ _ c.varint_len.ensures
+    c.varint_len-2.ensures _
+    c.has_room_for_both-room.ensures _ c.good_tag.ensures _ c.first_ground-error.ensures c.if-error-ne0.false
+    _ c.put_varint-behind_tag.ensures.0 _ c.put_varint-behind_tag.ensures.1 _ c.put_varint-start.ensures.0 _
+    c.put_varint-start.ensures.1 _ c.write_raw.ensures.0 _ c.write_raw.ensures.1
 
-put-varint-requires : tie.Need-put-varint-requires
-put-varint-requires c κs =
-    let at-if1 = c.before in
-    let at-first-ground = at-if1.before in
-    let at-good-tag = at-first-ground.before in
-    let at_room = at-good-tag.before in
-    let at-varint-len2 = at_room.before.before in
-    let at-varint-len = at-varint-len2.before in
-    let args = at-varint-len.before.before.before.args in
-    first args.out.now args.at args.number args.content.now _ _ at-varint-len.varint_len.ensures
-    at-varint-len2.varint-len2.ensures _
-    at_room.has-room-for-both.ensures _ at-good-tag.good_tag_lem.ensures _ at-first-ground.first-ground.ensures at-if1.if1.false
-
-put-varint-requires-2 : tie.Need-put-varint-requires-2
-put-varint-requires-2 c κs =
-    let at-put-varint = c.before.before.before in
-    let at-if1 = at-put-varint.before.before in
-    let at-first-ground = at-if1.before in
-    let at-good-tag = at-first-ground.before in
-    let at_room = at-good-tag.before in
-    let at-varint-len2 = at_room.before.before in
-    let at-varint-len = at-varint-len2.before in
-    let args = at-varint-len.before.before.before.args in
-    second args.out.now args.at args.number args.content.now _ _ at-varint-len.varint_len.ensures
-    at-varint-len2.varint-len2.ensures _
-    at_room.has-room-for-both.ensures _ at-good-tag.good_tag_lem.ensures _ at-first-ground.first-ground.ensures at-if1.if1.false
-    _ at-put-varint.put-varint.ensures.0 _ at-put-varint.put-varint.ensures.1
-
-returns-2 : tie.Need-returns-2
-returns-2 c =
-    let at-write-raw = c.before.before in
-    let at-put-varint2 = at-write-raw.before.before.before.before in
-    let at-put-varint = at-put-varint2.before.before.before.before in
-    let at-if1 = at-put-varint.before.before in
-    let at-first-ground = at-if1.before in
-    let at-good-tag = at-first-ground.before in
-    let at_room = at-good-tag.before in
-    let at-varint-len2 = at_room.before.before in
-    let at-varint-len = at-varint-len2.before in
-    let args = at-varint-len.before.before.before.args in
-    done args.out.now args.at args.number args.content.now _ _ at-varint-len.varint_len.ensures
-    at-varint-len2.varint-len2.ensures _
-    at_room.has-room-for-both.ensures _ at-good-tag.good_tag_lem.ensures _ at-first-ground.first-ground.ensures at-if1.if1.false
-    _ at-put-varint.put-varint.ensures.0 _ at-put-varint.put-varint.ensures.1 _ at-put-varint2.put-varint2.ensures.0 _
-    at-put-varint2.put-varint2.ensures.1 _ at-write-raw.write_raw.ensures.0 _ at-write-raw.write_raw.ensures.1
-
-pub write-bytes-spec : {M : Type 1} → statement M
-write-bytes-spec =
-    tie.close
-    (tie.spec (λ c. search rules) (λ c. search rules) (λ c κs. search rules) (λ c κs. search rules)
-    (λ c. omega (arith, short _ _ c.before.varint_len.ensures, short _ _ c.varint-len2.ensures))
-    (λ c κs. search rules) (λ c κs. search rules) (λ c κs. search rules) (λ c. search rules) returns put-varint-requires
-    put-varint-requires-2 (λ c κs. search rules) (λ c. search rules) returns-2)
+pub overflow_add-head : goal.overflow_add-head
+overflow_add-head c =
+    omega (arith, short _ _ c.varint_len.ensures, short _ _ c.varint_len-2.ensures)

@@ -2,8 +2,7 @@
 use mathlib.Core.Path.{◌≡◌}
 use mathlib.Core.Bool.{Bool, true, false}
 use Rattle.wire_write.specs.Writing.{first_ground}
-use Rattle.wire_write.proofs.grounds.first_ground.Statement.{statement}
-use Rattle.wire_write.proofs.grounds.first_ground.Tie as tie
+use Rattle.wire_write.proofs.grounds.first_ground.Goals as goal
 
 module _ (good room : Bool) where
   no_ground : good ≡ true → room ≡ true → 0 ≡ first_ground good room
@@ -15,9 +14,14 @@ module _ (good room : Bool) where
   bad_tag_lem : good ≡ false → 11 ≡ first_ground good room
   bad_tag_lem g = rw g
 
-pub first-ground-spec : {M : Type 1} → statement M
-first-ground-spec = tie.close
-    (tie.spec
-    (λ c. no_ground _ _ c.before.if1.true c.if2.true)
-    (λ c. no_room _ _ c.before.if1.true c.if2.false)
-    (λ c. bad_tag_lem _ c.before.args.room c.if1.false))
+pub returns-then-room : goal.returns-then-room
+returns-then-room c =
+    no_ground _ _ c.if-good.true c.if-room.true
+
+pub returns-else-room : goal.returns-else-room
+returns-else-room c =
+    no_room _ _ c.if-good.true c.if-room.false
+
+pub returns-else-good : goal.returns-else-good
+returns-else-good c =
+    bad_tag_lem _ c.args.room c.if-good.false

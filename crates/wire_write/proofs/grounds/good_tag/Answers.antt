@@ -5,10 +5,8 @@ use mathlib.Core.Bool.{false}
 use lib.Dec.{ltb}
 use native.Mathlib.Omega.{arith}
 use borrow.Author.Tests.{lt-ltb, le-ltb}
-use borrow.Author.Rules.{rules}
 use Rattle.wire_write.specs.Writing.{good_tag}
-use Rattle.wire_write.proofs.grounds.good_tag.Statement.{statement}
-use Rattle.wire_write.proofs.grounds.good_tag.Tie as tie
+use Rattle.wire_write.proofs.grounds.good_tag.Goals as goal
 
 module _ (n w : ℕ) where
   by_type : n * 8 + w ≤ 4294967295 → 0 < n → ltb w 6 ≡ good_tag n w
@@ -23,9 +21,14 @@ module _ (n w : ℕ) where
   unfolding good_tag
   too_large h = rw (le-ltb (n * 8 + w) (2 ^ 32) (omega arith))
 
-pub good-tag-spec : {M : Type 1} → statement M
-good-tag-spec = tie.close
-    (tie.spec (λ c. search rules) (λ c. search rules)
-    (λ c. by_type _ _ c.before.if1.true c.if2.true)
-    (λ c. bad-number _ _ c.before.if1.true c.if2.false)
-    (λ c. too_large _ _ c.if1.false))
+pub returns-then-number-gt0 : goal.returns-then-number-gt0
+returns-then-number-gt0 c =
+    by_type _ _ c.if-number-wire_type-le4294967295.true c.if-number-gt0.true
+
+pub returns-else-number-gt0 : goal.returns-else-number-gt0
+returns-else-number-gt0 c =
+    bad-number _ _ c.if-number-wire_type-le4294967295.true c.if-number-gt0.false
+
+pub returns-else-number-wire_type-le4294967295 : goal.returns-else-number-wire_type-le4294967295
+returns-else-number-wire_type-le4294967295 c =
+    too_large _ _ c.if-number-wire_type-le4294967295.false
