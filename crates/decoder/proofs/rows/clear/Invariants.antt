@@ -1,0 +1,15 @@
+-- `clear` meets its contract: the numbers up to `i` are 0, and those from `i` on as they were lent.
+use Prim.Native.Nat.{ℕ, ◌-◌, ◌≤◌}
+use mathlib.Core.Path.{◌≡◌, refl, ap, ◌∙◌}
+use mathlib.Core.List.{List, ◌++◌}
+use native.Mathlib.Omega.{arith}
+use borrow.Author.Rules.{rules}
+use lib.ListN.{length, drop, set, replicate, length-set}
+use Rattle.decoder.proofs.RowLaws.{cleared_more, cleared_all}
+use Rattle.decoder.proofs.rows.clear.Given as goal
+
+abbrev pub invariant-loop-i : goal.invariant-loop-i
+invariant-loop-i l = (l.i ≤ 256) × (256 ≤ length l.initial.rows) × (length l.rows ≡ length l.initial.rows) × (l.rows ≡ replicate l.i 0 ++ drop l.i l.initial.rows)
+
+abbrev pub decreases-loop-i : goal.decreases-loop-i
+decreases-loop-i l = 256 - l.i
