@@ -6,8 +6,7 @@ use Rattle.decoder.proofs.clear_rows.Goals as goal
 
 pub returns-then-rows-ge-ROW_NUMBERS : goal.returns-then-rows-ge-ROW_NUMBERS
 returns-then-rows-ge-ROW_NUMBERS c =
-    let at_clear = c in
-    at_clear.clear.ensures ∙ sym (all_cleared _ at_clear.if-rows-ge-ROW_NUMBERS.true)
+    c.clear.ensures ∙ sym (all_cleared _ c.if-rows-ge-ROW_NUMBERS.true)
 
 pub returns-else-rows-ge-ROW_NUMBERS : goal.returns-else-rows-ge-ROW_NUMBERS
 returns-else-rows-ge-ROW_NUMBERS c =

@@ -8,17 +8,17 @@ pub returns-then-rows-lt-ROW_NUMBERS : goal.returns-then-rows-lt-ROW_NUMBERS
 returns-then-rows-lt-ROW_NUMBERS c =
     let args = c.args in
     let gives =
-        refusal (few_numbers args.frame.now args.at args.end args.schema args.rows.now c.if-rows-lt-ROW_NUMBERS.true)
-        c.refused.ensures in
+    refusal (few_numbers args.frame.now args.at args.end args.schema args.rows.now c.if-rows-lt-ROW_NUMBERS.true)
+    c.refused.ensures in
     record { value = gives.0; rows_after = gives.1 }
 
 pub returns-then-frame-gt-MAX_FRAME : goal.returns-then-frame-gt-MAX_FRAME
 returns-then-frame-gt-MAX_FRAME c =
     let args = c.args in
     let gives =
-        refusal
-        (too_long args.frame.now args.at args.end args.schema args.rows.now c.if-rows-lt-ROW_NUMBERS.false c.if-frame-gt-MAX_FRAME.true)
-        c.refused-then-frame-gt-MAX_FRAME.ensures in
+    refusal
+    (too_long args.frame.now args.at args.end args.schema args.rows.now c.if-rows-lt-ROW_NUMBERS.false c.if-frame-gt-MAX_FRAME.true)
+    c.refused-then-frame-gt-MAX_FRAME.ensures in
     record { value = gives.0; rows_after = gives.1 }
 
 pub decode_part-requires : goal.decode_part-requires
@@ -32,6 +32,6 @@ returns c =
     let args = c.args in
     let call = c.decode_part in
     let gives =
-        part_read args.frame.now args.at args.end args.schema args.rows.now c.if-rows-lt-ROW_NUMBERS.false c.if-frame-gt-MAX_FRAME.false
-        {r = call.result} {numbers = call.new.rows} c.least-stop.ensures c.least.ensures (call.ensures.value, call.ensures.rows_after) in
+    part_read args.frame.now args.at args.end args.schema args.rows.now c.if-rows-lt-ROW_NUMBERS.false c.if-frame-gt-MAX_FRAME.false
+    {r = call.result} {numbers = call.new.rows} c.least-stop.ensures c.least.ensures (call.ensures.value, call.ensures.rows_after) in
     record { value = gives.0; rows_after = gives.1 }

@@ -6,7 +6,6 @@ use Rattle.decoder.proofs.named.Goals as goal
 
 pub returns : goal.returns
 returns c =
-    let at_least_lem = c in
-    let args = at_least_lem.args in
-    least_named args.bytes.now args.start args.size _ _ at_least_lem.least-from.ensures
+    let args = c.args in
+    least_named args.bytes.now args.start args.size _ _ c.least-from.ensures
     (omega (arith, c.least.ensures))

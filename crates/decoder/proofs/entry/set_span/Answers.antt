@@ -5,16 +5,6 @@ use mathlib.Core.Path.{sym}
 use Rattle.decoder.specs.DecoderState.{with_span}
 use Rattle.decoder.proofs.entry.set_span.Goals as goal
 
-pub overflow_cast-len : goal.overflow_cast-len
-unfolding with_span
-overflow_cast-len c =
-    search rules
-
-pub start_of-place-requires : goal.start_of-place-requires
-unfolding with_span
-start_of-place-requires c =
-    search rules
-
 pub returns-then-number-eq1 : goal.returns-then-number-eq1
 unfolding with_span
 returns-then-number-eq1 c =

@@ -15,9 +15,9 @@ returns-then-error-ne0 c =
     let call = c.read_fields-decoded in
     let second = c.clear-then-error-ne0 in
     let gives =
-        not_decoded args.frame.now args.schema args.at args.end _ args.rows.now c.clear.new.rows call.new.rows _ c.requires.1
-        (message_number_lem _ _ c.message_schema.ensures) c.clear.ensures call.ensures c.if-error-ne0.true _ c.refused.ensures
-        second.new.rows second.ensures in
+    not_decoded args.frame.now args.schema args.at args.end _ args.rows.now c.clear.new.rows call.new.rows _ c.requires.1
+    (message_number_lem _ _ c.message_schema.ensures) c.clear.ensures call.ensures c.if-error-ne0.true _ c.refused.ensures
+    second.new.rows second.ensures in
     record { value = gives.0; rows_after = gives.1 }
 
 pub returns : goal.returns
@@ -25,6 +25,6 @@ returns c =
     let args = c.args in
     let call = c.read_fields-decoded in
     let gives =
-        decoded args.frame.now args.schema args.at args.end _ args.rows.now c.clear.new.rows call.new.rows _ c.requires.1
-        (message_number_lem _ _ c.message_schema.ensures) c.clear.ensures call.ensures c.if-error-ne0.false in
+    decoded args.frame.now args.schema args.at args.end _ args.rows.now c.clear.new.rows call.new.rows _ c.requires.1
+    (message_number_lem _ _ c.message_schema.ensures) c.clear.ensures call.ensures c.if-error-ne0.false in
     record { value = gives.0; rows_after = gives.1 }

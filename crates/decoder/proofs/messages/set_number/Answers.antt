@@ -6,18 +6,15 @@ use Rattle.decoder.proofs.messages.set_number.Goals as goal
 
 pub offset_bounds-next-slot : goal.offset_bounds-next-slot
 offset_bounds-next-slot c =
-    let at-t = c in
-    record { fits = omega (arith, target_fits at-t.field_target-t.ensures at-t.in-Number.is) }
+    record { fits = omega (arith, target_fits c.field_target-t.ensures c.in-Number.is) }
 
 pub bounds-next-slot : goal.bounds-next-slot
 bounds-next-slot c =
-    let at-t = c in
-    target_fits at-t.field_target-t.ensures at-t.in-Number.is
+    target_fits c.field_target-t.ensures c.in-Number.is
 
 pub returns-in-Number : goal.returns-in-Number
 returns-in-Number c =
-    let at-t = c in
-    number_stored _ _ _ _ (target_is at-t.field_target-t.ensures at-t.in-Number.is) c.low_u32.ensures
+    number_stored _ _ _ _ (target_is c.field_target-t.ensures c.in-Number.is) c.low_u32.ensures
 
 pub returns-in-Bytes : goal.returns-in-Bytes
 returns-in-Bytes c =

@@ -14,13 +14,12 @@ loop-i-init c =
 
 pub loop-i-preserved : goal.loop-i-preserved
 loop-i-preserved c =
-    let at-loop = c in
-    let inv = at-loop.loop-i.invariant in
-    let rows₀ = at-loop.args.rows.now in (
+    let inv = c.loop-i.invariant in
+    let rows₀ = c.args.rows.now in (
       omega arith,
       inv.1,
-      length-set at-loop.loop-i.rows at-loop.loop-i.i 0 ∙ inv.2,
-      ap (λ (x : List ℕ). set x at-loop.loop-i.i 0) inv.3 ∙ cleared_more rows₀ at-loop.loop-i.i (omega arith),
+      length-set c.loop-i.rows c.loop-i.i 0 ∙ inv.2,
+      ap (λ (x : List ℕ). set x c.loop-i.i 0) inv.3 ∙ cleared_more rows₀ c.loop-i.i (omega arith),
     )
 
 pub returns : goal.returns
