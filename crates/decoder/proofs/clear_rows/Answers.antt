@@ -1,6 +1,5 @@
 -- `clear_rows` meets its contract: the two cases of the definition.
 use mathlib.Core.Path.{sym, ◌∙◌}
-use borrow.Author.Rules.{rules}
 use Rattle.decoder.proofs.Answers.{all_cleared, none_cleared}
 use Rattle.decoder.proofs.clear_rows.Goals as goal
 

@@ -1,12 +1,6 @@
 -- `find_key` meets its contract: none of the rows passed has the key (`Seek`).
-use Prim.Native.Nat.{◌+◌, ◌*◌, ◌-◌, ◌/◌, ◌≤◌, min}
-use mathlib.Core.Path.{◌≡◌}
-use lib.ListN.{length}
 use native.Mathlib.Omega.{arith}
-use borrow.Author.Rules.{rules}
-use Rattle.decoder.specs.Fields.{part_of}
-use Rattle.decoder.specs.Rows.{rows_lent}
-use Rattle.decoder.proofs.RowUpdates.{Seek, seek_start, seek_end, seek_found, seek_next}
+use Rattle.decoder.proofs.RowUpdates.{seek_start, seek_end, seek_found, seek_next}
 use Rattle.decoder.proofs.find_key.Goals as goal
 
 pub loop-i-init : goal.loop-i-init

@@ -1,6 +1,5 @@
 -- A start and a length, cut down to the slice, name the same bytes.
 use native.Mathlib.Omega.{arith}
-use borrow.Author.Rules.{rules}
 use Rattle.decoder.proofs.PartEnds.{least_named}
 use Rattle.decoder.proofs.named.Goals as goal
 

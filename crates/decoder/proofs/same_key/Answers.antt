@@ -1,6 +1,5 @@
 -- What `check::same` says of the two parts is the test of the definition.
 use mathlib.Core.Path.{sym, ◌∙◌}
-use borrow.Author.Rules.{rules}
 use Rattle.decoder.proofs.RowLaws.{same_test}
 use Rattle.decoder.proofs.same_key.Goals as goal
 

@@ -1,13 +1,11 @@
 -- `read_entry` meets its contract: what is left to read is what is left of the whole entry (`ReadingEntry`), and each field takes bytes
 -- of it.
-use Prim.Native.Nat.{◌-◌}
 use mathlib.Core.Path.{sym, ap}
 use native.Mathlib.Omega.{arith}
-use borrow.Author.Rules.{rules}
 use Rattle.decoder.specs.DecoderState.{entry_of}
 use Rattle.decoder.proofs.Walk.{walk_end, walk_error, walk_skipped, varint_bounds, skipped_bounds}
 use Rattle.decoder.proofs.Walk.{bytes_bounds, bytes_place, fixed64, group, fixed32}
-use Rattle.decoder.proofs.EntryLaws.{ReadingEntry, entry_start, entry_varint, entry_bytes}
+use Rattle.decoder.proofs.EntryLaws.{entry_start, entry_varint, entry_bytes}
 use Rattle.decoder.proofs.entry.read_entry.Goals as goal
 
 pub loop-code-init : goal.loop-code-init

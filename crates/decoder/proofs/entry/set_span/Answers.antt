@@ -1,5 +1,4 @@
 -- `set_span` meets its contract: its branches are the definition's tests.
-use borrow.Author.Rules.{rules}
 use borrow.Author.Tests.{eq-eqb, ne_eqb}
 use mathlib.Core.Path.{sym}
 use Rattle.decoder.specs.DecoderState.{with_span}

@@ -1,7 +1,6 @@
 -- `add_entry` meets its contract: the count of entries is tested first, then the entry is read, and its row is entered among those of the
 -- state.
 use mathlib.Core.Path.{refl}
-use borrow.Author.Rules.{rules}
 use Rattle.decoder.proofs.MapEntries.{too_many, few_rows, entry_refused, entry_added}
 use Rattle.decoder.proofs.messages.add_entry.Goals as goal
 

@@ -1,5 +1,4 @@
 -- `set_bytes` meets its contract: the two stores are those of the definition.
-use borrow.Author.Rules.{rules}
 use Rattle.decoder.specs.DecoderState.{with_bytes}
 use Rattle.decoder.proofs.messages.set_bytes.Goals as goal
 

@@ -1,6 +1,5 @@
 -- `set_number` meets its contract: the slot that `field_target` names is stored to, and for any other target nothing is (`Targets`).
 use native.Mathlib.Omega.{arith}
-use borrow.Author.Rules.{rules}
 use Rattle.decoder.proofs.Targets.{target_is, target_fits, number_stored, bytes, entry, message, none, number_kept}
 use Rattle.decoder.proofs.messages.set_number.Goals as goal
 

@@ -1,10 +1,9 @@
 -- `clear` meets its contract: the numbers up to `i` are 0, and those from `i` on as they were lent.
-use Prim.Native.Nat.{ℕ, ◌-◌, ◌≤◌}
-use mathlib.Core.Path.{◌≡◌, refl, ap, ◌∙◌}
-use mathlib.Core.List.{List, ◌++◌}
+use Prim.Native.Nat.{ℕ}
+use mathlib.Core.Path.{refl, ap, ◌∙◌}
+use mathlib.Core.List.{List}
 use native.Mathlib.Omega.{arith}
-use borrow.Author.Rules.{rules}
-use lib.ListN.{length, drop, set, replicate, length-set}
+use lib.ListN.{set, length-set}
 use Rattle.decoder.proofs.RowLaws.{cleared_more, cleared_all}
 use Rattle.decoder.proofs.rows.clear.Goals as goal
 

@@ -1,11 +1,8 @@
 -- `clear` meets its contract: the numbers up to `i` are 0, and those from `i` on as they were lent.
-use Prim.Native.Nat.{ℕ, ◌-◌, ◌≤◌}
-use mathlib.Core.Path.{◌≡◌, refl, ap, ◌∙◌}
-use mathlib.Core.List.{List, ◌++◌}
-use native.Mathlib.Omega.{arith}
-use borrow.Author.Rules.{rules}
-use lib.ListN.{length, drop, set, replicate, length-set}
-use Rattle.decoder.proofs.RowLaws.{cleared_more, cleared_all}
+use Prim.Native.Nat.{◌-◌, ◌≤◌}
+use mathlib.Core.Path.{◌≡◌}
+use mathlib.Core.List.{◌++◌}
+use lib.ListN.{length, drop, replicate}
 use Rattle.decoder.proofs.rows.clear.Given as goal
 
 abbrev pub invariant-loop-i : goal.invariant-loop-i

@@ -1,5 +1,5 @@
 -- `enter_row` meets its contract: what is stored at the place of the key are the numbers of the rows with the entry (`RowUpdates`).
-use Rattle.std.proofs.Common.{ℕ, ◌≡◌, ◌*◌, ◌<◌, ◌≤◌, List, length, ap, ◌∙◌, arith}
+use Rattle.std.proofs.Common.{ℕ, ◌≡◌, ◌<◌, ◌≤◌, List, length, ap, ◌∙◌, arith}
 use Rattle.std.proofs.Math.ListN.{length-set}
 use Rattle.decoder.specs.Fields.{key_place}
 use Rattle.decoder.specs.Rows.{row_numbers, rows_in, rows_lent}

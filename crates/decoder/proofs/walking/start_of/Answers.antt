@@ -1,5 +1,4 @@
 -- `start_of` meets its contract: the branch is the definition's test.
-use borrow.Author.Rules.{rules}
 use borrow.Author.Tests.{eq-eqb, ne_eqb}
 use Rattle.decoder.proofs.walking.start_of.Goals as goal
 

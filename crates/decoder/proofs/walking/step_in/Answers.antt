@@ -1,5 +1,4 @@
 -- `step_in` meets its contract.
-use borrow.Author.Rules.{rules}
 use Rattle.decoder.proofs.Walk.{step_cut}
 use Rattle.decoder.proofs.walking.step_in.Goals as goal
 
