@@ -3,12 +3,12 @@
 
 need_archives() {
     [ -z "${BEKURAPI_LIB_DIR:-}" ] || return 0
-    for crate in bekurapi queue_in_place; do rt staticlib "$crate" >&2; done
+    tools/built archives >&2
     export BEKURAPI_LIB_DIR=$PWD/target/staticlib
 }
 
 need_listing() {
     [ -z "${LISTING:-}" ] || return 0
-    rt check listing >&2
+    tools/built listing >&2
     export LISTING=$PWD/target/bin/listing
 }

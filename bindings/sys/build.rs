@@ -1,5 +1,5 @@
 //! Links the library's archives. They are in the folder that BEKURAPI_LIB_DIR names, as they are there, or in the repository's
-//! target/staticlib, where `rt staticlib` proves and writes those that are missing or older than their sources.
+//! target/staticlib, where `tools/built archives` proves and writes those that are missing or older than their sources.
 
 use std::env;
 use std::fs;
@@ -7,11 +7,11 @@ use std::path::{Path, PathBuf};
 use std::process::{exit, Command, Stdio};
 use std::time::SystemTime;
 
-/// Each archive is named after its crate.
+/// Each archive is named after the library whose functions it has; the crate that exports them has `_c` after its name.
 const ARCHIVES: [&str; 2] = ["bekurapi", "queue_in_place"];
 
-/// What archives are made from, in the repository.
-const SOURCES: [&str; 2] = ["crates.txt", "crates"];
+/// The folders of a crate that archives are made from.
+const PARTS: [&str; 3] = ["src", "specs", "proofs"];
 
 fn main() {
     println!("cargo:rerun-if-changed=build.rs");
@@ -35,13 +35,16 @@ fn main() {
 fn repository_folder() -> PathBuf {
     let root = Path::new(env!("CARGO_MANIFEST_DIR")).join("../..");
     let folder = root.join("target/staticlib");
-    for source in SOURCES {
-        println!("cargo:rerun-if-changed={}", root.join(source).display());
-    }
+    println!("cargo:rerun-if-changed={}", root.join("crates.txt").display());
     for name in ARCHIVES {
-        let archive = archive(&folder, name);
-        if changed(&archive).is_none_or(|built| built < last_change(&root, name)) {
-            prove(&root, name);
+        let sources = sources(&root, &format!("{name}_c"));
+        for source in &sources {
+            println!("cargo:rerun-if-changed={}", source.display());
+        }
+        let newest = sources.iter().filter_map(|source| newest(source)).max();
+        let newest = newest.unwrap_or_else(|| fail(&format!("no sources of {name}")));
+        if changed(&archive(&folder, name)).is_none_or(|built| built < newest) {
+            prove(&root);
         }
     }
     folder
@@ -56,14 +59,15 @@ fn changed(path: &Path) -> Option<SystemTime> {
     fs::metadata(path).and_then(|file| file.modified()).ok()
 }
 
-/// When a source of a crate, or of one that it rests on, was last changed.
-fn last_change(root: &Path, name: &str) -> SystemTime {
+/// The folders with the sources of a crate, and of all that it rests on.
+fn sources(root: &Path, name: &str) -> Vec<PathBuf> {
     let graph = root.join("crates.txt");
     let lines = fs::read_to_string(&graph).unwrap_or_else(|error| fail(&format!("{}: {error}", graph.display())));
     let mut crates = vec![name.to_string()];
     let mut place = 0;
     while place < crates.len() {
-        let used = lines.lines().filter_map(|line| line.split_once(':')).find(|(user, _)| *user == crates[place]);
+        let mut used = lines.lines().filter_map(|line| line.split_once(':'));
+        let used = used.find(|(user, _)| user.split_whitespace().next() == Some(&crates[place]));
         for below in used.map_or("", |(_, used)| used).split_whitespace() {
             if !crates.iter().any(|known| known == below) {
                 crates.push(below.to_string());
@@ -71,31 +75,31 @@ fn last_change(root: &Path, name: &str) -> SystemTime {
         }
         place += 1;
     }
-    let newest = crates.iter().filter_map(|name| newest(&root.join("crates").join(name))).max();
-    newest.unwrap_or_else(|| fail(&format!("no sources of {name}")))
+    let folders = crates.iter().flat_map(|name| PARTS.map(|part| root.join("crates").join(name).join(part)));
+    folders.filter(|folder| folder.exists()).collect()
 }
 
-/// When the file, or the newest file in the folder, was last changed. Wrong versions, which are no source, do not count.
+/// When the file, or the newest file in the folder, was last changed.
 fn newest(path: &Path) -> Option<SystemTime> {
     match fs::read_dir(path) {
         Ok(entries) => {
             let entries = entries.filter_map(|entry| Some(entry.ok()?.path()));
-            entries.filter(|entry| !entry.ends_with("must-fail")).filter_map(|entry| newest(&entry)).max()
+            entries.filter_map(|entry| newest(&entry)).max()
         }
         Err(_) => changed(path),
     }
 }
 
-/// Proves a crate and writes its archive. What rt prints is reported where it fails, as cargo reads standard output.
-fn prove(root: &Path, name: &str) {
-    let run = Command::new("rt").args(["staticlib", name]).current_dir(root).stdin(Stdio::null()).output();
+/// Proves the library and writes its archives. What rt prints is reported where it fails, as cargo reads standard output.
+fn prove(root: &Path) {
+    let run = Command::new(root.join("tools/built")).arg("archives").current_dir(root).stdin(Stdio::null()).output();
     match run {
         Ok(output) if output.status.success() => {}
         Ok(output) => {
             eprint!("{}{}", String::from_utf8_lossy(&output.stdout), String::from_utf8_lossy(&output.stderr));
-            fail(&format!("`rt staticlib {name}` failed"));
+            fail("`tools/built archives` failed");
         }
-        Err(error) => fail(&format!("cannot run `rt`, nor is BEKURAPI_LIB_DIR set: {error}")),
+        Err(error) => fail(&format!("cannot run `tools/built`, nor is BEKURAPI_LIB_DIR set: {error}")),
     }
 }
 

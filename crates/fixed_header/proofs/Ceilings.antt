@@ -14,7 +14,6 @@ use mathlib.Core.Bool.{true, not}
 use mathlib.Core.List.{List}
 use native.Mathlib.Omega.{arith}
 use borrow.Author.Tests.{le-leb, lt-leb}
-use lib.Dec.{leb}
 use lib.ListN.{length, get_or}
 use Rattle.refusals.proofs.Tests.{Finds, Tests, both_pass, at_most}
 use Rattle.fixed_header.specs.Header.{max_frame, ceiling_ok, CeilingOk, WrongCeiling, total_of, total_ok, fault_of, header_error, parsed}

@@ -6,14 +6,14 @@
 -- may be those of a header that keeps the rules.
 -- Ruled out: two headers that keep the rules and have the same 16 bytes.
 use Prim.Native.Nat.{ℕ, ◌+◌, ◌*◌, ◌-◌, ◌/◌, ◌%◌, ◌^◌, ◌<◌, ◌≤◌}
-use mathlib.Core.Path.{◌≡◌, refl, sym, ap, ◌∙◌}
-use mathlib.Core.Bool.{Bool, true, false, cond, ◌&&◌}
-use mathlib.Core.List.{List, [], ◌++◌, append-nil}
+use mathlib.Core.Path.{◌≡◌, refl, ◌∙◌}
+use mathlib.Core.Bool.{Bool, true, false, cond}
+use mathlib.Core.List.{List, [], ◌++◌}
 use native.Mathlib.Omega.{arith}
 use borrow.Author.Tests.{leb-true, eqb-true, eq-eqb}
 use lib.Dec.{eqb, leb}
-use lib.ListN.{length, get_or}
-use Rattle.fixed_header.specs.Header.{max_frame, be16_of, be32_of, total_of, header_size_of, id_of, version_of, type_of, header_in, parsed}
+use lib.ListN.{length}
+use Rattle.fixed_header.specs.Header.{max_frame, be16_of, be32_of, total_of, header_size_of, id_of, version_of, type_of, parsed}
 use Rattle.fixed_header.specs.Header.{magic_ok, data_type_ok, stream_type_ok, total_ok, header_size_ok, fault_of, header_error}
 use Rattle.fixed_header.specs.Put.{data_type_of, stream_type_of, fixed_header, Keeps}
 use Rattle.fixed_header.specs.declared.FixedHeader.{FixedHeader}

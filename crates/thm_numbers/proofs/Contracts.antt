@@ -111,7 +111,7 @@ module _ {M : Type 1} {𝓤 : Ura M} (𝓛 : Logic 𝓤) (mem : Memory → SProp
     pub next_field_ensures : (f : Field)
         → (next_field.clauses 𝓛 mem run (κ, tt) (s, (at, (end, tt)))).ensures tt f
         (at_exit next_field.ended (κ, tt) (s, (at, (end, tt))) (tt, (tt, (tt, tt))))
-        ≡ fact 𝓤 (AsEnsured (calls.next_field s.now at end f))
+        ≡ fact 𝓤 (AsEnsured (calls.next_field_call s.now at end f))
     next_field_ensures f = refl
 
   -- ---- `wire_walk`
@@ -122,7 +122,7 @@ module _ {M : Type 1} {𝓤 : Ura M} (𝓛 : Logic 𝓤) (mem : Memory → SProp
 
   pub field_at_ensures : (at : ℕ) (x : Step)
       → (field_at.clauses 𝓛 mem run (κ, tt) (s, (at, tt))).ensures tt x (at_exit field_at.ended (κ, tt) (s, (at, tt)) (tt, (tt, tt)))
-      ≡ fact 𝓤 (AsEnsured (calls.field_at s.now at x))
+      ≡ fact 𝓤 (AsEnsured (calls.field_at_call s.now at x))
   field_at_ensures at x = refl
 
   pub last_field_ensures : (t : ℕ) (f : Field)
@@ -140,12 +140,12 @@ module _ {M : Type 1} {𝓤 : Ura M} (𝓛 : Logic 𝓤) (mem : Memory → SProp
   decode_ensures at end schema d after = refl
 
   -- ---- `writer_checks`
-  pub content_error_ensures : (θ : Lft) (kind : Kind) (slots : Bor (List ℕ)) (count body_size_lem code : ℕ)
-      → (content_error_call.clauses 𝓛 mem run (θ, (κ, (ι, tt))) (kind, (slots, (count, (s, (lent, (body_size_lem, tt))))))).ensures tt code
-      (at_exit content_error_call.ended (θ, (κ, (ι, tt))) (kind, (slots, (count, (s, (lent, (body_size_lem, tt))))))
+  pub content_error_ensures : (θ : Lft) (kind : Kind) (slots : Bor (List ℕ)) (count body_size code : ℕ)
+      → (content_error_call.clauses 𝓛 mem run (θ, (κ, (ι, tt))) (kind, (slots, (count, (s, (lent, (body_size, tt))))))).ensures tt code
+      (at_exit content_error_call.ended (θ, (κ, (ι, tt))) (kind, (slots, (count, (s, (lent, (body_size, tt))))))
       (tt, (tt, (tt, (tt, (tt, (tt, tt)))))))
-      ≡ fact 𝓤 (AsEnsured (calls.content_error_call kind slots.now count s.now lent.now body_size_lem code))
-  content_error_ensures θ kind slots count body_size_lem code = refl
+      ≡ fact 𝓤 (AsEnsured (calls.content_error_call kind slots.now count s.now lent.now body_size code))
+  content_error_ensures θ kind slots count body_size code = refl
 
   -- ---- `queue`
   pub queue_add_ensures : (q : Queue) (j : Job) (a : Added)

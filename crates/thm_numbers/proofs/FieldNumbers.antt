@@ -113,16 +113,16 @@ decode_usable frame at end schema lent =
     (message_sound frame (schema_at schema) at (part frame at end)) lent))
 
 -- ---- `writer_checks`: 18, 17, 15
-pub content_usable : (kind : Kind) (slots : List ℕ) (count : ℕ) (source numbers : List ℕ) (body_size_lem : ℕ)
-    → Usable (content_error kind slots count source numbers body_size_lem)
+pub content_usable : (kind : Kind) (slots : List ℕ) (count : ℕ) (source numbers : List ℕ) (body_size : ℕ)
+    → Usable (content_error kind slots count source numbers body_size)
 unfolding content_error
-content_usable kind slots count source numbers body_size_lem =
+content_usable kind slots count source numbers body_size =
     either Usable (rows_ok kind count (length numbers))
     (either Usable (spans_within (length source) (schema_of kind) 0 slots)
     (either Usable (rows_within (length source) (rows_in count numbers))
     (either Usable (keys_differ source (rows_in count numbers))
     (either Usable (absent_ok (rows_in count numbers) (schema_of kind) 0 slots)
-    (either Usable (body_ok kind slots body_size_lem)
+    (either Usable (body_ok kind slots body_size)
     (inl refl)
     (inr (is_in_lem 15 in_use refl)))
     (inr (is_in_lem 18 in_use refl)))

@@ -72,7 +72,7 @@ use Rattle.thm_c.specs.Calls.{CDeframed, CDeframes}
 use Rattle.thm_c.proofs.CExactly.{parse_exactly, progress_number, c_check, c_parse, c_deframe, c_finish, c_read, c_write}
 use Rattle.thm_numbers.specs.AnyCall.{AnyCall, AsEnsured, number_in, varint_number, tag_number, length_number, skip_number, field_number}
 use Rattle.thm_numbers.specs.AnyCall.{check_header, parse_header, deframe, finish, read_varint, read_tag, read_length, skip_field_call}
-use Rattle.thm_numbers.specs.AnyCall.{next_field, reader_next, field_at, last_field_call, write_varint, write_tag, write_raw, write_bytes}
+use Rattle.thm_numbers.specs.AnyCall.{next_field_call, reader_next, field_at_call, last_field_call, write_varint, write_tag, write_raw, write_bytes}
 use Rattle.thm_numbers.specs.AnyCall.{decode, read_spans, read, content_error_call, write, write_slots}
 use Rattle.thm_numbers.specs.AnyCall.{queue_add, queue_take, queue_cancel}
 use Rattle.thm_numbers.specs.AnyCall.{trpc_header_check, trpc_header_parse, trpc_deframe, trpc_finish, trpc_read, trpc_write}
@@ -117,12 +117,12 @@ given_in_use (skip_field_call s at end n w depth k) is =
     subst (λ (x : Skip). Usable (skip_number x)) (sym is)
     (skip_usable at (skip_field n w depth rest)
     (value_code (group_in (length rest)) (group_in_code (length rest)) n (wire_type w) _ rest))
-given_in_use (next_field s at end f) is =
+given_in_use (next_field_call s at end f) is =
     subst (λ (x : Field). Usable (field_number x)) (sym is) (field_usable at (next_field (part s at end)) (next_field_code (part s at end)))
 given_in_use (reader_next r m) is =
     subst (λ (x : Moved). Usable (field_number x.field)) (sym is)
     (field_usable r.at (next_field (drop r.at r.bytes.now)) (next_field_code (drop r.at r.bytes.now)))
-given_in_use (field_at s at x) is =
+given_in_use (field_at_call s at x) is =
     subst (λ (x : Step). Usable (field_number x.field)) (sym is)
     (field_usable at (next_field (drop at s)) (next_field_code (drop at s)))
 given_in_use (last_field_call s t f) is = subst (λ (x : Field). Usable (field_number x)) (sym is) (last_usable t s)
@@ -141,8 +141,8 @@ given_in_use (read_spans c kind frame lent x rows) is =
     (read_in_use c kind frame lent))
 given_in_use (read c kind frame lent x) is =
     answer_usable (read_entry c kind frame lent) x (read_gives c kind frame lent x is) (read_in_use c kind frame lent)
-given_in_use (content_error_call kind slots count source numbers body_size_lem code) is =
-    subst Usable (sym is) (content_usable kind slots count source numbers body_size_lem)
+given_in_use (content_error_call kind slots count source numbers body_size code) is =
+    subst Usable (sym is) (content_usable kind slots count source numbers body_size)
 given_in_use (write c r source numbers body output w) is = write_usable c r source numbers body output w is
 given_in_use (write_slots c kind id version slots count source numbers body output w) is =
     write_usable c (record_of kind id version slots count) source numbers body output w is

@@ -99,10 +99,10 @@ pub data AnyCall : Type 0 where
   read_tag : (s : List ℕ) (at end : ℕ) (t : Tag) → AnyCall
   read_length : (s : List ℕ) (at end : ℕ) (l : Length) → AnyCall
   skip_field_call : (s : List ℕ) (at end n w depth : ℕ) (k : Skip) → AnyCall
-  next_field : (s : List ℕ) (at end : ℕ) (f : Field) → AnyCall
+  next_field_call : (s : List ℕ) (at end : ℕ) (f : Field) → AnyCall
   -- `wire_walk`
   reader_next : (r : FieldReader) (m : Moved) → AnyCall
-  field_at : (s : List ℕ) (at : ℕ) (x : Step) → AnyCall
+  field_at_call : (s : List ℕ) (at : ℕ) (x : Step) → AnyCall
   last_field_call : (s : List ℕ) (t : ℕ) (f : Field) → AnyCall
   -- `wire_write`
   write_varint : (v : ℕ) (out : List ℕ) (at : ℕ) (x : FieldWriting) → AnyCall
@@ -116,7 +116,7 @@ pub data AnyCall : Type 0 where
   -- `reader`
   read : (c : ℕ) (kind : Kind) (frame lent : List ℕ) (x : Reading) → AnyCall
   -- `writer_checks`
-  content_error_call : (kind : Kind) (slots : List ℕ) (count : ℕ) (source numbers : List ℕ) (body_size_lem code : ℕ) → AnyCall
+  content_error_call : (kind : Kind) (slots : List ℕ) (count : ℕ) (source numbers : List ℕ) (body_size code : ℕ) → AnyCall
   -- `writer`
   write : (c : ℕ) (r : Record) (source numbers body output : List ℕ) (w : Writing) → AnyCall
   write_slots : (c : ℕ) (kind : Kind) (id version : ℕ) (slots : List ℕ) (count : ℕ) (source numbers body output : List ℕ) (w : Writing)
@@ -147,9 +147,9 @@ AsEnsured (read_varint s at end v) = v ≡ varint_at at (varint (part s at end))
 AsEnsured (read_tag s at end t) = t ≡ tag_at at (tag (part s at end))
 AsEnsured (read_length s at end l) = l ≡ length_at at (length_prefix (part s at end))
 AsEnsured (skip_field_call s at end n w depth k) = k ≡ skip_at at (skip_field n w depth (part s at end))
-AsEnsured (next_field s at end f) = f ≡ field_at at (next_field (part s at end))
+AsEnsured (next_field_call s at end f) = f ≡ field_at at (next_field (part s at end))
 AsEnsured (reader_next r m) = m ≡ next_of r
-AsEnsured (field_at s at x) = x ≡ step_at s at
+AsEnsured (field_at_call s at x) = x ≡ step_at s at
 AsEnsured (last_field_call s t f) = f ≡ last_field t s
 AsEnsured (write_varint v out at x) = Raw out at (put_varint v) x
 AsEnsured (write_tag n w out at x) = Tagged n w out at (put_tag n w) x
@@ -158,8 +158,8 @@ AsEnsured (write_bytes n content out at x) = Tagged n 2 out at (put_bytes n cont
 AsEnsured (decode frame at end schema lent d) = d ≡ (decoded frame at end schema lent).answer
 AsEnsured (read_spans c kind frame lent x rows) = Locates c kind frame lent x rows
 AsEnsured (read c kind frame lent x) = Reads c kind frame lent x
-AsEnsured (content_error_call kind slots count source numbers body_size_lem code) =
-    code ≡ content_error kind slots count source numbers body_size_lem
+AsEnsured (content_error_call kind slots count source numbers body_size code) =
+    code ≡ content_error kind slots count source numbers body_size
 AsEnsured (write c r source numbers body output w) = Writes c r source numbers body output w
 AsEnsured (write_slots c kind id version slots count source numbers body output w) =
     Writes c (record_of kind id version slots count) source numbers body output w
@@ -186,9 +186,9 @@ number_in (read_varint s at end v) = varint_number v
 number_in (read_tag s at end t) = tag_number t
 number_in (read_length s at end l) = length_number l
 number_in (skip_field_call s at end n w depth k) = skip_number k
-number_in (next_field s at end f) = field_number f
+number_in (next_field_call s at end f) = field_number f
 number_in (reader_next r m) = field_number m.field
-number_in (field_at s at x) = field_number x.field
+number_in (field_at_call s at x) = field_number x.field
 number_in (last_field_call s t f) = field_number f
 number_in (write_varint v out at x) = number_of (verdict_of x.answer)
 number_in (write_tag n w out at x) = number_of (verdict_of x.answer)
@@ -197,7 +197,7 @@ number_in (write_bytes n content out at x) = number_of (verdict_of x.answer)
 number_in (decode frame at end schema lent d) = d.error
 number_in (read_spans c kind frame lent x rows) = number_of (answer_says x.answer)
 number_in (read c kind frame lent x) = number_of (answer_says x.answer)
-number_in (content_error_call kind slots count source numbers body_size_lem code) = code
+number_in (content_error_call kind slots count source numbers body_size code) = code
 number_in (write c r source numbers body output w) = number_of (encoded_says w.answer)
 number_in (write_slots c kind id version slots count source numbers body output w) = number_of (encoded_says w.answer)
 number_in (queue_add q j a) = a.error

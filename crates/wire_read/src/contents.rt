@@ -1,7 +1,8 @@
 // What comes after a field's tag, by wire type.
 ghost use Rattle.std.specs.Prelude.{◌≡◌};
 ghost use Rattle.wire_read.specs.Part.{part};
-ghost use Rattle.wire_read.specs.Tags.{VARINT, I64, LEN, SGROUP, I32, wire_type};
+ghost use Rattle.wire_read.specs.Tags.{VARINT, I64, LEN, SGROUP, I32};
+ghost use Rattle.wire_read.specs.Tags as tags;
 ghost use Rattle.wire_read.specs.Fields.{content};
 ghost use Rattle.wire_read.specs.Placed.{field_at};
 
@@ -67,7 +68,7 @@ fn fixed32_field(s: &[u8], at: usize, end: usize, number: u32) -> Field
 
 // The field whose content starts the part.
 pub(crate) fn content_at(s: &[u8], at: usize, end: usize, number: u32, wire_type: u32) -> Field
-    ensures { result ≡ field_at at (content number (wire_type wire_type) (part s.now at end)) }
+    ensures { result ≡ field_at at (content number (tags.wire_type wire_type) (part s.now at end)) }
 {
     if wire_type == 0 {
         return varint_field(s, at, end, number);

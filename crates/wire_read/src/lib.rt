@@ -158,7 +158,7 @@ pub fn skip_field(s: &[u8], at: usize, end: usize, number: u32, wire_type: u32, 
 }
 
 // The same with any depth. The calls nest once for each open group: every caller passes at most 32.
-#[cycle(skip_group_skip_value)]
+#[cycle(skipping_groups)]
 fn skip_value(s: &[u8], at: usize, end: usize, number: u32, wire_type: u32, depth: u32) -> Skip
     ensures { result ≡ skip_at at (skip_value number wire_type depth (part s.now at end)) }
 {
@@ -184,7 +184,7 @@ fn skip_value(s: &[u8], at: usize, end: usize, number: u32, wire_type: u32, dept
 }
 
 // Skips what is left of an opened group of this field number, its end included.
-#[cycle(skip_group_skip_value)]
+#[cycle(skipping_groups)]
 fn skip_group(s: &[u8], at: usize, end: usize, number: u32, depth: u32) -> Skip
     ensures { result ≡ skip_at at (skip_group number depth (part s.now at end)) }
 {

@@ -36,9 +36,9 @@ module _ (r : FieldReader) where
   abbrev found : FieldResult
   found = next_field left
 
-  next_field : (next_of r).field ≡ field_at r.at found
+  next_field_lem : (next_of r).field ≡ field_at r.at found
   unfolding step_at
-  next_field = refl
+  next_field_lem = refl
 
   next_reader : (next_of r).reader ≡ moved r (r.at + used_by found)
   unfolding step_at place_behind
@@ -56,7 +56,7 @@ module _ (r : FieldReader) where
   unfolding answers_of placed bytes_taken
   walks_last e =
       record {
-        fields = ap (λ (f : Field). f ∷ []) next_field;
+        fields = ap (λ (f : Field). f ∷ []) next_field_lem;
         stays = λ n. let none : 0 + n ≡ n = omega arith in ap (λ (k : ℕ). after k r) none ∙ at_rest e n ∙ ap (moved r) (omega arith);
       }
 

@@ -1,7 +1,6 @@
 -- A code that is not 0 is handed on; after code 0 there are 16 bytes.
 use mathlib.Core.Path.{sym, ◌∙◌}
 use native.Mathlib.Omega.{arith}
-use borrow.Author.Rules.{rules}
 use borrow.Author.Tests.{eq-eqb, ne_eqb}
 use Rattle.fixed_header.specs.Header.{parsed}
 use Rattle.fixed_header.proofs.Codes.{good_length}
@@ -13,9 +12,7 @@ returns-then-code-ne0 c = rw (← c.check_header-code.ensures, ne_eqb _ _ c.if-c
 
 pub header_in-requires : goal.header_in-requires
 header_in-requires c =
-    let at-check = c in
-    let args = at-check.args in
-    omega (arith, good_length args.ceiling args.bytes.now (sym at-check.check_header-code.ensures ∙ c.if-code-ne0.false))
+    omega (arith, good_length c.args.ceiling c.args.bytes.now (sym c.check_header-code.ensures ∙ c.if-code-ne0.false))
 
 pub returns : goal.returns
 unfolding parsed

@@ -1,7 +1,6 @@
 -- Its numbers, each at its place.
 use Prim.Native.Nat.{◌<◌, ◌≤◌}
 use native.Mathlib.Omega.{arith}
-use borrow.Author.Rules.{rules}
 use borrow.Author.Tests.{lt-leb, le-leb}
 use lib.ListN.{length}
 use lib.Seq.{sets-eq}
@@ -17,23 +16,17 @@ returns-then-out-lt-HEADER c =
 pub returns : goal.returns
 unfolding header_put fixed_header
 returns c =
-    let last = c in
-    let id = last in
-    let size = id in
-    let total = size in
-    let types = total in
-    let args = types.args in
-    let stored = sets-eq (fixed_header args.header) args.out-1.now 0 (omega arith) in
-    let enough : 16 ≤ length args.out-1.now = omega arith in
+    let stored = sets-eq (fixed_header c.args.header) c.args.out.now 0 (omega arith) in
+    let enough : 16 ≤ length c.args.out.now = omega arith in
     let room = le-leb _ _ enough in (
       rw room,
       rw (
         room,
-        last.put_version.ensures,
-        id.put_u32-2.ensures,
-        size.put_u16.ensures,
-        total.put_u32.ensures,
-        types.put_types.ensures,
+        c.put_version.ensures,
+        c.put_u32-2.ensures,
+        c.put_u16.ensures,
+        c.put_u32.ensures,
+        c.put_types.ensures,
       )
           stored,
     )

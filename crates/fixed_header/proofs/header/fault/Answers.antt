@@ -2,7 +2,6 @@
 use Prim.Native.Nat.{ℕ}
 use mathlib.Core.Path.{◌≡◌, sym, ◌∙◌}
 use mathlib.Core.List.{List}
-use borrow.Author.Rules.{rules}
 use lib.ListN.{get_or}
 use Rattle.fixed_header.specs.Header.{be32_of, total_of, header_size_of, type_fault, size_fault, fault_of}
 use Rattle.fixed_header.proofs.Codes.{types_pass}
@@ -24,8 +23,4 @@ returns-then-types-ne0 c = of_types _ _ _ c.type_fault-types.ensures c.if-types-
 
 pub returns : goal.returns
 returns c =
-    let at_size = c in
-    let at-total = at_size in
-    let at-if1 = at-total in
-    of-rest _ _ _ at-if1.type_fault-types.ensures at-if1.if-types-ne0.false _ _ _ at-total.be32.ensures at_size.header_size_lem.ensures.0
-    c.size_fault.ensures
+    of-rest _ _ _ c.type_fault-types.ensures c.if-types-ne0.false _ _ _ c.be32.ensures c.header_size.ensures.0 c.size_fault.ensures

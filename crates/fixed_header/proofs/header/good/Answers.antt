@@ -3,7 +3,6 @@ use Prim.Native.Nat.{ℕ}
 use mathlib.Core.Path.{◌≡◌, refl, sym, ap, ◌∙◌}
 use mathlib.Core.Bool.{Bool, true, false, ◌&&◌, cond}
 use mathlib.Core.List.{List}
-use borrow.Author.Rules.{rules}
 use borrow.Author.Tests.{ne_eqb}
 use lib.Dec.{eqb}
 use lib.ListN.{get_or}
@@ -38,12 +37,8 @@ returns-then-type_fault-ne0 c = bad _ _ _ c.type_fault.ensures c.if-type_fault-n
 
 pub returns : goal.returns
 returns c =
-    let at_size = c in
-    let at-total = at_size in
-    let at-if1 = at-total in
-    by-sizes _ _ _ at-if1.type_fault.ensures at-if1.if-type_fault-ne0.false _ _ at-total.total.ensures at_size.header_size_lem.ensures.0
-    c.sizes_ok.ensures
+    by-sizes _ _ _ c.type_fault.ensures c.if-type_fault-ne0.false _ _ c.total.ensures c.header_size.ensures.0 c.sizes_ok.ensures
 
 pub sizes_ok-requires : goal.sizes_ok-requires
 sizes_ok-requires c =
-    c.header_size_lem.ensures.1
+    c.header_size.ensures.1

@@ -5,7 +5,6 @@ use mathlib.Core.Bool.{◌&&◌}
 use native.Mathlib.Omega.{arith}
 use native.Mathlib.Decide.{ℕ_discrete}
 use borrow.Author.Tests.{eq-eqb, ne_eqb}
-use borrow.Author.Rules.{rules}
 use lib.Dec.{eqb}
 use Rattle.fixed_header.specs.Header.{magic_ok}
 use Rattle.fixed_header.proofs.header.magic_ok.Goals as goal
@@ -21,6 +20,4 @@ at_once first second low = by (ℕ_discrete first 0x09) (ℕ_discrete second 0x3
 pub returns : goal.returns
 unfolding magic_ok
 returns c =
-    let first = c.wide.ensures in
-    let second = c.wide-2.ensures in
-    at_once _ _ first.1 ∙ ap₂ (λ (a b : ℕ). eqb a 0x09 && eqb b 0x30) first.0 second.0
+    at_once _ _ c.wide.ensures.1 ∙ ap₂ (λ (a b : ℕ). eqb a 0x09 && eqb b 0x30) c.wide.ensures.0 c.wide-2.ensures.0

@@ -4,7 +4,6 @@ use Prim.Native.Nat.{ℕ, ◌+◌, ◌%◌, ◌^◌, ◌<◌, ◌≤◌}
 use mathlib.Core.Path.{◌≡◌, sym, ap, ◌∙◌}
 use mathlib.Core.Bool.{Bool, true, false, cond}
 use native.Mathlib.Omega.{arith}
-use borrow.Author.Rules.{rules}
 use borrow.Author.Tests.{leb-true, not-true, not-false}
 use lib.Dec.{leb}
 use Rattle.laws.proofs.Booleans.{both}
@@ -33,25 +32,16 @@ module _ (c data_type total size content : ℕ) (small : content < 2 ^ 32) (wrap
 
 pub returns-then-not-total_ok : goal.returns-then-not-total_ok
 returns-then-not-total_ok c =
-    let at-total = c in
-    let at-content = at-total in
-    let left = at-content.content_size-content.ensures in
-    bad-total _ _ _ _ _ left.0 left.1 at-total.total_ok.ensures (not-true _ c.if-not-total_ok.true-raw)
+    bad-total _ _ _ _ _ c.content_size-content.ensures.0 c.content_size-content.ensures.1 c.total_ok.ensures (not-true _ c.if-not-total_ok.true-raw)
 
 pub returns-then-not-header_size_ok : goal.returns-then-not-header_size_ok
 returns-then-not-header_size_ok c =
-    let at-if1 = c in
-    let at-total = at-if1 in
-    let left = at-total.content_size-content.ensures in
-    by_size _ _ _ _ _ left.0 left.1 at-total.total_ok.ensures (not-false _ at-if1.if-not-total_ok.false-raw)
+    by_size _ _ _ _ _ c.content_size-content.ensures.0 c.content_size-content.ensures.1 c.total_ok.ensures (not-false _ c.if-not-total_ok.false-raw)
     c.header_size_ok.ensures false (not-true _ c.if-not-header_size_ok.true-raw)
 
 pub returns : goal.returns
 returns c =
-    let at-if1 = c in
-    let at-total = at-if1 in
-    let left = at-total.content_size-content.ensures in
-    by_size _ _ _ _ _ left.0 left.1 at-total.total_ok.ensures (not-false _ at-if1.if-not-total_ok.false-raw)
+    by_size _ _ _ _ _ c.content_size-content.ensures.0 c.content_size-content.ensures.1 c.total_ok.ensures (not-false _ c.if-not-total_ok.false-raw)
     c.header_size_ok.ensures true (not-false _ c.if-not-header_size_ok.false-raw)
 
 pub total_ok-requires : goal.total_ok-requires

@@ -3,7 +3,6 @@
 use Prim.Native.Nat.{ℕ, ◌<◌, ◌≤◌}
 use mathlib.Core.Path.{◌≡◌, sym, ap}
 use native.Mathlib.Omega.{arith}
-use borrow.Author.Rules.{rules}
 use borrow.Author.Tests.{le-leb, lt-leb}
 use Rattle.laws.proofs.Tests.{fails, holds}
 use Rattle.fixed_header.specs.Header.{data_type_ok, stream_type_ok}
@@ -20,35 +19,26 @@ returns-then-not-magic_ok c = rw (fails c.magic_ok.ensures c.if-not-magic_ok.tru
 pub returns-then-data_type-eq0 : goal.returns-then-data_type-eq0
 unfolding data_type_ok stream_type_ok
 returns-then-data_type-eq0 c =
-    let at-magic = c in
-    rw (holds at-magic.magic_ok.ensures c.if-not-magic_ok.false-raw, c.if-data_type-eq0.true)
+    rw (holds c.magic_ok.ensures c.if-not-magic_ok.false-raw, c.if-data_type-eq0.true)
 
 pub returns-then-data_type-gt1 : goal.returns-then-data_type-gt1
 unfolding data_type_ok
 returns-then-data_type-gt1 c =
-    let at-if1 = c in
-    let at-magic = at-if1 in
-    let over : 1 < at-magic.args.data_type = omega arith in
-    rw (holds at-magic.magic_ok.ensures at-if1.if-not-magic_ok.false-raw, lt-leb _ _ over)
+    let over : 1 < c.args.data_type = omega arith in
+    rw (holds c.magic_ok.ensures c.if-not-magic_ok.false-raw, lt-leb _ _ over)
 
 pub returns-then-not-stream_type_ok : goal.returns-then-not-stream_type_ok
 unfolding data_type_ok
 returns-then-not-stream_type_ok c =
-    let at-if2 = c in
-    let at-if1 = at-if2 in
-    let args = at-if1.args in
-    let magic = holds at-if1.magic_ok.ensures at-if1.if-not-magic_ok.false-raw in
-    let within : args.data_type ≤ 1 = omega arith in
-    let type_is = one args.data_type args.stream_type at-if2.if-data_type-eq0.false within in
+    let magic = holds c.magic_ok.ensures c.if-not-magic_ok.false-raw in
+    let within : c.args.data_type ≤ 1 = omega arith in
+    let type_is = one c.args.data_type c.args.stream_type c.if-data_type-eq0.false within in
     rw (magic, le-leb _ _ within, ← type_is, fails c.stream_type_ok.ensures c.if-not-stream_type_ok.true-raw)
 
 pub returns : goal.returns
 unfolding data_type_ok
 returns c =
-    let at-if2 = c in
-    let at-if1 = at-if2 in
-    let args = at-if1.args in
-    let magic = holds at-if1.magic_ok.ensures at-if1.if-not-magic_ok.false-raw in
-    let within : args.data_type ≤ 1 = omega arith in
-    let type_is = one args.data_type args.stream_type at-if2.if-data_type-eq0.false within in
+    let magic = holds c.magic_ok.ensures c.if-not-magic_ok.false-raw in
+    let within : c.args.data_type ≤ 1 = omega arith in
+    let type_is = one c.args.data_type c.args.stream_type c.if-data_type-eq0.false within in
     rw (magic, le-leb _ _ within, ← type_is, holds c.stream_type_ok.ensures c.if-not-stream_type_ok.false-raw)

@@ -1,7 +1,6 @@
 -- The magic and the types of the frame type, the low byte first.
 use Prim.Native.Nat.{◌<◌}
 use native.Mathlib.Omega.{arith}
-use borrow.Author.Rules.{rules}
 use Rattle.fixed_header.specs.declared.FrameType.{FrameType}
 use Rattle.fixed_header.specs.declared.FrameType.TheVariants.{Unary, Init, Data, Feedback, Close}
 use Rattle.fixed_header.specs.Put.{data_type_of, stream_type_of}
@@ -17,14 +16,12 @@ small Close = (omega arith, omega arith)
 
 pub returns : goal.returns
 returns c =
-    let at_low = c in
-    let at-stream = at_low in
-    let t = at-stream.args.frame_type in
+    let t = c.args.frame_type in
     let digits = four_digits 0x09 0x30 (data_type_of t) (stream_type_of t) (omega arith) (omega arith) (small t).0 (small t).1 in
     rw (
-      at_low.put_low.ensures,
-      at-stream.stream_type.ensures,
-      at-stream.data_type.ensures,
+      c.put_low.ensures,
+      c.stream_type.ensures,
+      c.data_type.ensures,
       digits.0,
       digits.1,
       digits.2,
