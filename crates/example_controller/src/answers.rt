@@ -4,21 +4,22 @@ use crate::print::{part, print, print_bytes, print_number};
 use deframer::{Deframer, End};
 use queue::{Job, Queue};
 use records::{Record, Response, Span};
+use std::io::Stdout;
 use writer::Encoded;
 
-pub(crate) fn print_end(deframer: Deframer, buffer: &[u8], ceiling: u32) {
+pub(crate) fn print_end(out: Stdout, deframer: Deframer, buffer: &[u8], ceiling: u32) {
     let end = deframer::finish(deframer, buffer, ceiling);
     match end {
-        End::Clean => print(b"the stream ends clean\n"),
+        End::Clean => print(out, b"the stream ends clean\n"),
         End::Short(held) => {
-            print(b"the stream ends short, with ");
-            print_number(held as u64);
-            print(b" bytes held\n");
+            print(out, b"the stream ends short, with ");
+            print_number(out, held as u64);
+            print(out, b" bytes held\n");
         }
         End::Refused(code) => {
-            print(b"the stream is refused with ");
-            print_number(code as u64);
-            print(b"\n");
+            print(out, b"the stream is refused with ");
+            print_number(out, code as u64);
+            print(out, b"\n");
         }
     }
 }
@@ -27,7 +28,7 @@ pub(crate) fn print_end(deframer: Deframer, buffer: &[u8], ceiling: u32) {
 const TAKES: usize = 65;
 
 // Takes the jobs, the one that is due first before the others, and answers each. The last take is refused, and says why.
-pub(crate) fn answer_all(q: Queue) {
+pub(crate) fn answer_all(out: Stdout, q: Queue) {
     let mut waiting = q;
     let mut error = 0;
     for _ in 0..TAKES {
@@ -36,25 +37,25 @@ pub(crate) fn answer_all(q: Queue) {
         if error != 0 {
             break;
         }
-        answer(removed.job);
+        answer(out, removed.job);
         waiting = removed.queue;
     }
-    print_last(error);
+    print_last(out, error);
 }
 
 // What the last take said: nothing waits, or the queue is not valid.
-fn print_last(error: u32) {
+fn print_last(out: Stdout, error: u32) {
     if error == refusals::QUEUE_EMPTY {
-        print(b"nothing waits\n");
+        print(out, b"nothing waits\n");
         return;
     }
-    print(b"the queue is refused with ");
-    print_number(error as u64);
-    print(b"\n");
+    print(out, b"the queue is refused with ");
+    print_number(out, error as u64);
+    print(out, b"\n");
 }
 
 // Writes the response to a job under the ceiling of the job's line, and prints its bytes.
-fn answer(job: Job) {
+fn answer(out: Stdout, job: Job) {
     let line = line_of(job.connection);
     let response = Record::Response(Response {
         id: job.request,
@@ -71,15 +72,15 @@ fn answer(job: Job) {
         attachment_size: 0,
         rows: 0,
     });
-    let mut out = [0u8; 64];
+    let mut frame = [0u8; 64];
     let rows = [0; 4];
-    let written = writer::write(response, b"", &rows, b"done", &mut out, line.ceiling);
-    print(b"request ");
-    print_number(job.request as u64);
-    print(b" is due first; its response:");
+    let written = writer::write(response, b"", &rows, b"done", &mut frame, line.ceiling);
+    print(out, b"request ");
+    print_number(out, job.request as u64);
+    print(out, b" is due first; its response:");
     match written {
-        Encoded::Frame(size) => print_bytes(part(&out, 0, size)),
-        Encoded::Refused(_) => print(b" none"),
+        Encoded::Frame(size) => print_bytes(out, part(&frame, 0, size)),
+        Encoded::Refused(_) => print(out, b" none"),
     }
-    print(b"\n");
+    print(out, b"\n");
 }

@@ -19,6 +19,7 @@ use deframer::{Deframer, Progress};
 use lines::{GATEWAY, Line, SENSOR};
 use print::part;
 use queue::Queue;
+use std::io::Stdout;
 
 // No stream has more pieces.
 const PIECES: usize = 1024;
@@ -31,46 +32,49 @@ struct Controller {
     queue: Queue,
 }
 
-fn main() {
+fn main(rt: HostRuntime) {
+    let out = rt.stdout();
     let mut rows = [0u32; 256];
-    let q = receive_gateway(queue::empty(), &mut rows);
-    let q = receive_sensor(q, &mut rows);
-    answers::answer_all(q);
+    let q = receive_gateway(out, queue::empty(), &mut rows);
+    let q = receive_sensor(out, q, &mut rows);
+    answers::answer_all(out, q);
 }
 
 // Receives the gateway's stream, and reports its end.
-fn receive_gateway(q: Queue, rows: &mut [u32]) -> Queue {
+fn receive_gateway(out: Stdout, q: Queue, rows: &mut [u32]) -> Queue {
     let mut stream = [0u8; 1024];
     let length = gateway::write_stream(&mut stream);
-    let mut buffer = io::large_buffer();
+    let mut buffer = [0u8; 65536];
     let done = receive(
+        out,
         fresh(GATEWAY, q),
         part(&stream, 0, length),
         &mut buffer,
         rows,
     );
-    print_end(done.deframer, &buffer, GATEWAY.ceiling);
+    print_end(out, done.deframer, &buffer, GATEWAY.ceiling);
     done.queue
 }
 
 // Receives the sensor's stream, and reports its end. The buffer is as long as the ceiling; after it are 64 bytes more,
 // which stay as they are.
-fn receive_sensor(q: Queue, rows: &mut [u32]) -> Queue {
+fn receive_sensor(out: Stdout, q: Queue, rows: &mut [u32]) -> Queue {
     let mut stream = [0u8; 4112];
     let length = sensor::write_stream(&mut stream);
     let mut space = [sensor::GUARD; 4160];
     let room: &mut [u8] = &mut space;
     let start = 0;
     let end = SENSOR.ceiling as usize;
-    sensor::print_ceiling();
+    sensor::print_ceiling(out);
     let done = receive(
+        out,
         fresh(SENSOR, q),
         part(&stream, 0, length),
         &mut room[start..end],
         rows,
     );
-    print_end(done.deframer, part(&space, start, end), SENSOR.ceiling);
-    sensor::print_changes(part(&space, end, space.len()));
+    print_end(out, done.deframer, part(&space, start, end), SENSOR.ceiling);
+    sensor::print_changes(out, part(&space, end, space.len()));
     done.queue
 }
 
@@ -85,6 +89,7 @@ fn fresh(line: Line, q: Queue) -> Controller {
 
 // Receives a stream in pieces, one each millisecond, until none is left.
 fn receive(
+    out: Stdout,
     controller: Controller,
     stream: &[u8],
     buffer: &mut [u8],
@@ -97,7 +102,7 @@ fn receive(
         if piece.len() == 0 {
             break;
         }
-        c = receive_piece(c, piece, buffer, rows, now as u64);
+        c = receive_piece(out, c, piece, buffer, rows, now as u64);
     }
     c
 }
@@ -114,6 +119,7 @@ fn piece_start(line: Line, n: usize) -> usize
 
 // Cuts the frames from a piece. A call takes a byte at least, unless a header was refused.
 fn receive_piece(
+    out: Stdout,
     controller: Controller,
     piece: &[u8],
     buffer: &mut [u8],
@@ -131,7 +137,7 @@ fn receive_piece(
         let progress = step.progress;
         let next = step.next;
         from = after(from, step.taken, piece.len());
-        c = received(c, next, progress, buffer, rows, now);
+        c = received(out, c, next, progress, buffer, rows, now);
     }
     c
 }
@@ -149,6 +155,7 @@ fn after(from: usize, taken: usize, end: usize) -> usize {
 
 // A whole frame may be a request.
 fn received(
+    out: Stdout,
     controller: Controller,
     deframer: Deframer,
     progress: Progress,
@@ -162,7 +169,7 @@ fn received(
         Progress::Frame(size) => Controller {
             line,
             deframer,
-            queue: requests::accept(q, line, part(buffer, 0, size), rows, now),
+            queue: requests::accept(out, q, line, part(buffer, 0, size), rows, now),
         },
         Progress::NeedMore => Controller {
             line,

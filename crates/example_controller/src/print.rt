@@ -1,31 +1,31 @@
-// What is printed, and parts of bytes.
-use libc::STDOUT_FILENO;
+// What is printed, and parts of bytes. Whether a write failed is dropped.
+use std::io::Stdout;
 
-pub(crate) fn print(text: &[u8]) {
-    io::write_all(STDOUT_FILENO, text);
+pub(crate) fn print(out: Stdout, text: &[u8]) {
+    let _ = out.write_all(text);
 }
 
-pub(crate) fn print_number(n: u64) {
-    io::print_decimal(STDOUT_FILENO, n);
+pub(crate) fn print_number(out: Stdout, n: u64) {
+    let _ = out.print(n);
 }
 
 // Each byte as a space and two hexadecimal digits.
-pub(crate) fn print_bytes(bytes: &[u8]) {
+pub(crate) fn print_bytes(out: Stdout, bytes: &[u8]) {
     let mut space = [0u8; 256];
-    let out: &mut [u8] = &mut space;
+    let line: &mut [u8] = &mut space;
     let mut at = 0;
     let mut i = 0;
     while i < bytes.len() {
-        at = add_byte(out, at, bytes[i]);
+        at = add_byte(out, line, at, bytes[i]);
         i += 1;
     }
-    text::print(out, at);
+    text::print(out, line, at);
 }
 
-fn add_byte(out: &mut [u8], at: usize, b: u8) -> usize {
-    let room = text::with_room(out, at, 3);
-    let next = text::add_byte(out, room, b' ');
-    text::add_hex(out, next, b)
+fn add_byte(out: Stdout, line: &mut [u8], at: usize, b: u8) -> usize {
+    let room = text::with_room(out, line, at, 3);
+    let next = text::add_byte(line, room, b' ');
+    text::add_hex(line, next, b)
 }
 
 // The bytes from `start` up to `end`, as far as they exist.

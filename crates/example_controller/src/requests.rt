@@ -6,27 +6,35 @@ use message::{Answer, Located, read_spans};
 use queue::Queue;
 use records::{Record, Request, Span};
 use schema::Kind;
+use std::io::Stdout;
 
 // Reads a frame of a line as a request and queues a job for it. The deframer has found its header good.
-pub(crate) fn accept(q: Queue, line: Line, frame: &[u8], rows: &mut [u32], now: u64) -> Queue {
+pub(crate) fn accept(
+    out: Stdout,
+    q: Queue,
+    line: Line,
+    frame: &[u8],
+    rows: &mut [u32],
+    now: u64,
+) -> Queue {
     let fixed = part(frame, 0, fixed_header::HEADER);
     let Parsed::Good(header) = fixed_header::parse_header(fixed, line.ceiling) else {
         return q;
     };
-    print(b"frame of ");
-    print_number(header.total as u64);
-    print(b" bytes: ");
-    if !is_unary(header) {
+    print(out, b"frame of ");
+    print_number(out, header.total as u64);
+    print(out, b" bytes: ");
+    if !is_unary(out, header) {
         return q;
     }
     let located = read_spans(Kind::Request, frame, line.ceiling, rows);
     let answer = located.answer;
     match answer {
-        Answer::Read(record) => accept_record(q, line, frame, located, record, rows, now),
+        Answer::Read(record) => accept_record(out, q, line, frame, located, record, rows, now),
         Answer::Refused(code) => {
-            print(b"bad, error ");
-            print_number(code as u64);
-            print(b"\n");
+            print(out, b"bad, error ");
+            print_number(out, code as u64);
+            print(out, b"\n");
             q
         }
     }
@@ -34,6 +42,7 @@ pub(crate) fn accept(q: Queue, line: Line, frame: &[u8], rows: &mut [u32], now: 
 
 // Queues a job for the request that was read.
 fn accept_record(
+    out: Stdout,
     q: Queue,
     line: Line,
     frame: &[u8],
@@ -45,61 +54,61 @@ fn accept_record(
     let Record::Request(request) = record else {
         return q;
     };
-    print_request(frame, located, request, rows);
-    add(q, line, request, now)
+    print_request(out, frame, located, request, rows);
+    add(out, q, line, request, now)
 }
 
 // Whether a frame may be a request; reports one that is not.
-fn is_unary(header: FixedHeader) -> bool {
+fn is_unary(out: Stdout, header: FixedHeader) -> bool {
     let frame_type = header.frame_type;
     match frame_type {
         FrameType::Unary => {
             return true;
         }
-        FrameType::Init => print(b"init"),
-        FrameType::Data => print(b"data"),
-        FrameType::Feedback => print(b"feedback"),
-        FrameType::Close => print(b"close"),
+        FrameType::Init => print(out, b"init"),
+        FrameType::Data => print(out, b"data"),
+        FrameType::Feedback => print(out, b"feedback"),
+        FrameType::Close => print(out, b"close"),
     }
-    print(b" of stream ");
-    print_number(header.id as u64);
-    print(b", no request\n");
+    print(out, b" of stream ");
+    print_number(out, header.id as u64);
+    print(out, b", no request\n");
     false
 }
 
-fn print_request(frame: &[u8], located: Located, request: Request, rows: &[u32]) {
-    print_numbers(request.id, request.header_version, request.timeout);
-    print(b", func ");
-    print_span(frame, request.func);
-    print_rows(frame, rows, request.rows as usize);
-    print(b", body \"");
-    print_span(frame, located.body);
-    print(b"\"\n");
+fn print_request(out: Stdout, frame: &[u8], located: Located, request: Request, rows: &[u32]) {
+    print_numbers(out, request.id, request.header_version, request.timeout);
+    print(out, b", func ");
+    print_span(out, frame, request.func);
+    print_rows(out, frame, rows, request.rows as usize);
+    print(out, b", body \"");
+    print_span(out, frame, located.body);
+    print(out, b"\"\n");
 }
 
-fn print_numbers(id: u32, version: u8, timeout: u32) {
-    print(b"request ");
-    print_number(id as u64);
-    print(b", version ");
-    print_number(version as u64);
-    print(b", timeout ");
-    print_number(timeout as u64);
+fn print_numbers(out: Stdout, id: u32, version: u8, timeout: u32) {
+    print(out, b"request ");
+    print_number(out, id as u64);
+    print(out, b", version ");
+    print_number(out, version as u64);
+    print(out, b", timeout ");
+    print_number(out, timeout as u64);
 }
 
 // A byte field, as text.
-fn print_span(frame: &[u8], span: Span) {
+fn print_span(out: Stdout, frame: &[u8], span: Span) {
     let start = span.start as usize;
-    print(part(frame, start, start + span.len as usize));
+    print(out, part(frame, start, start + span.len as usize));
 }
 
-fn print_rows(frame: &[u8], rows: &[u32], count: usize) {
+fn print_rows(out: Stdout, frame: &[u8], rows: &[u32], count: usize) {
     for i in 0..count {
-        print_row(frame, rows, i);
+        print_row(out, frame, rows, i);
     }
 }
 
 // Row number i of the map: its key and its value.
-fn print_row(frame: &[u8], rows: &[u32], i: usize) {
+fn print_row(out: Stdout, frame: &[u8], rows: &[u32], i: usize) {
     if 64 <= i {
         return;
     }
@@ -115,26 +124,26 @@ fn print_row(frame: &[u8], rows: &[u32], i: usize) {
         start: rows[at + 2],
         len: rows[at + 3],
     };
-    print(b", ");
-    print_span(frame, key);
-    print(b" = ");
-    print_span(frame, value);
+    print(out, b", ");
+    print_span(out, frame, key);
+    print(out, b" = ");
+    print_span(out, frame, value);
 }
 
 // Queues the job of a request.
-fn add(q: Queue, line: Line, request: Request, now: u64) -> Queue {
+fn add(out: Stdout, q: Queue, line: Line, request: Request, now: u64) -> Queue {
     let added = queue::add(q, queue::job_of(request, line.connection, now));
     let waiting = added.queue;
     if added.error == 0 {
-        print(b"  queued at ");
-        print_number(now);
-        print(b" ms, ");
-        print_number(waiting.count as u64);
-        print(b" waiting\n");
+        print(out, b"  queued at ");
+        print_number(out, now);
+        print(out, b" ms, ");
+        print_number(out, waiting.count as u64);
+        print(out, b" waiting\n");
     } else {
-        print(b"  not queued, error ");
-        print_number(added.error as u64);
-        print(b"\n");
+        print(out, b"  not queued, error ");
+        print_number(out, added.error as u64);
+        print(out, b"\n");
     }
     waiting
 }

@@ -6,6 +6,7 @@ use crate::frames::{VERSION, copy_to, write_frame};
 use crate::lines::SENSOR;
 use crate::print::{print, print_number};
 use records::{Data, Record};
+use std::io::Stdout;
 
 // Where piece number n of the stream starts, from 0: the pieces have 1,025 bytes. So the Data frame comes in four, and the header
 // after it in two, 4 bytes and 12.
@@ -35,23 +36,23 @@ pub(crate) fn write_stream(out: &mut [u8]) -> usize {
     )
 }
 
-pub(crate) fn print_ceiling() {
-    print(b"the sensor's line has a ceiling of ");
-    print_number(SENSOR.ceiling as u64);
-    print(b" bytes\n");
+pub(crate) fn print_ceiling(out: Stdout) {
+    print(out, b"the sensor's line has a ceiling of ");
+    print_number(out, SENSOR.ceiling as u64);
+    print(out, b" bytes\n");
 }
 
 // Reports each byte after the buffer that has changed.
-pub(crate) fn print_changes(guard: &[u8]) {
+pub(crate) fn print_changes(out: Stdout, guard: &[u8]) {
     for i in 0..guard.len() {
         if guard[i] != GUARD {
-            print_change(i);
+            print_change(out, i);
         }
     }
 }
 
-fn print_change(i: usize) {
-    print(b"byte ");
-    print_number(i as u64);
-    print(b" after the buffer was changed\n");
+fn print_change(out: Stdout, i: usize) {
+    print(out, b"byte ");
+    print_number(out, i as u64);
+    print(out, b" after the buffer was changed\n");
 }

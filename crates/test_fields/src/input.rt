@@ -1,6 +1,8 @@
 // Parts of standard input, each after its length in two bytes, big-endian.
 ghost use Rattle.std.specs.Prelude.{◌<◌};
 
+use std::io::{Read, Stdin};
+
 // The length of the next part; or there is none.
 #[derive(Clone, Copy)]
 pub(crate) enum Input {
@@ -10,8 +12,8 @@ pub(crate) enum Input {
 
 // Reads the next part to the start of the buffer. One that is cut off, or that the buffer cannot
 // hold, counts as none.
-pub(crate) fn read_part(buf: &mut [u8]) -> Input {
-    let length = read_length();
+pub(crate) fn read_part(mut from: Stdin, buf: &mut [u8]) -> Input {
+    let length = read_length(from);
     match length {
         Input::End => Input::End,
         Input::Bytes(n) => {
@@ -19,8 +21,7 @@ pub(crate) fn read_part(buf: &mut [u8]) -> Input {
                 return Input::End;
             }
             let start = 0;
-            let got = io::read_full(libc::STDIN_FILENO, &mut buf[start..n]);
-            if got < n {
+            if from.read_exact(&mut buf[start..n]).is_err() {
                 return Input::End;
             }
             Input::Bytes(n)
@@ -28,10 +29,9 @@ pub(crate) fn read_part(buf: &mut [u8]) -> Input {
     }
 }
 
-fn read_length() -> Input {
+fn read_length(mut from: Stdin) -> Input {
     let mut two = [0u8; 2];
-    let got = io::read_full(libc::STDIN_FILENO, &mut two);
-    if got == 2 {
+    if from.read_exact(&mut two).is_ok() {
         Input::Bytes(wide(two[0]) * 256 + wide(two[1]))
     } else {
         Input::End

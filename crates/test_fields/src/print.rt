@@ -2,6 +2,7 @@
 // takes all places, so nothing has to be known here of the places that it answers, and each loop
 // ends by a count of turns that no string uses up.
 use crate::lines::{print_close, print_hex, print_number, print_open, print_quoted};
+use std::io::Stdout;
 use wire_read::{Field, Skip, Tag};
 use wire_walk::Step;
 
@@ -24,7 +25,7 @@ pub(crate) fn error_code(s: &[u8], end: usize) -> u32 {
 // Prints the fields of a part up to its end, or to what is no field: the part of a group takes its
 // end tag in, and in a string without error nothing else is no field.
 #[cycle(print_fields_print_nested)]
-pub(crate) fn print_fields(level: u32, s: &[u8], start: usize, end: usize) {
+pub(crate) fn print_fields(out: Stdout, level: u32, s: &[u8], start: usize, end: usize) {
     let mut at = start;
     let mut turns = usize::MAX;
     while turns > 0 {
@@ -37,8 +38,8 @@ pub(crate) fn print_fields(level: u32, s: &[u8], start: usize, end: usize) {
         }
         let inner = fields_inside(field, level, s, at, end);
         match inner {
-            Inner::Fields(number, from, to) => print_nested(level, number, s, from, to),
-            Inner::Nothing => print_value(level, field, s),
+            Inner::Fields(number, from, to) => print_nested(out, level, number, s, from, to),
+            Inner::Nothing => print_value(out, level, field, s),
         }
         at = next;
     }
@@ -46,28 +47,29 @@ pub(crate) fn print_fields(level: u32, s: &[u8], start: usize, end: usize) {
 
 // A field with fields inside, from `from` up to `to`.
 #[cycle(print_fields_print_nested)]
-fn print_nested(level: u32, number: u32, s: &[u8], from: usize, to: usize) {
+fn print_nested(out: Stdout, level: u32, number: u32, s: &[u8], from: usize, to: usize) {
     if level >= LEVELS {
         return;
     }
-    print_open(level, number);
-    print_fields(level + 1, s, from, to);
-    print_close(level);
+    print_open(out, level, number);
+    print_fields(out, level + 1, s, from, to);
+    print_close(out, level);
 }
 
 // A field in one line. Groups and what is no field are not printed here.
-fn print_value(level: u32, field: Field, s: &[u8]) {
+fn print_value(out: Stdout, level: u32, field: Field, s: &[u8]) {
     match field {
-        Field::Varint(number, value, _) => print_number(level, number, value),
-        Field::Fixed64(number, value, _) => print_hex(level, number, value, 16),
+        Field::Varint(number, value, _) => print_number(out, level, number, value),
+        Field::Fixed64(number, value, _) => print_hex(out, level, number, &value.to_be_bytes()),
         Field::Bytes(number, start, length) => print_quoted(
+            out,
             level,
             number,
             s,
             start,
             end_of(start, length),
         ),
-        Field::Fixed32(number, value, _) => print_hex(level, number, value as u64, 8),
+        Field::Fixed32(number, value, _) => print_hex(out, level, number, &value.to_be_bytes()),
         _ => {}
     }
 }

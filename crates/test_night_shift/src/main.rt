@@ -2,8 +2,9 @@
 // first by a signed 32-bit difference of the timeouts, and document 01's example.
 #![tactic(auto)]
 
-use libc::STDOUT_FILENO;
 use queue::{Job, Queue};
+use std::io;
+use std::io::Stdout;
 
 // The queue with one job more, of arrival 0.
 fn with_job(q: Queue, request: u32, timeout: u32) -> Queue {
@@ -19,29 +20,34 @@ fn with_job(q: Queue, request: u32, timeout: u32) -> Queue {
 }
 
 // Takes a job and prints its timeout.
-fn print_next(q: Queue) -> Queue {
+fn print_next(out: Stdout, q: Queue) -> io::Result<Queue> {
     let removed = queue::take(q);
-    io::print_decimal(STDOUT_FILENO, removed.job.timeout as u64);
-    io::write_all(STDOUT_FILENO, b"\n");
-    removed.queue
+    out.println(removed.job.timeout)?;
+    Ok(removed.queue)
 }
 
-fn night_shift() {
-    io::write_all(STDOUT_FILENO, b"night shift\n");
+fn night_shift(out: Stdout) -> io::Result<()> {
+    out.println("night shift")?;
     let q = with_job(queue::empty(), 1, 4000000000);
     let q = with_job(q, 2, 600000);
-    print_next(print_next(q));
+    let q = print_next(out, q)?;
+    print_next(out, q)?;
+    Ok(())
 }
 
-fn document_example() {
-    io::write_all(STDOUT_FILENO, b"document 01\n");
+fn document_example(out: Stdout) -> io::Result<()> {
+    out.println("document 01")?;
     let q = with_job(queue::empty(), 1, 0);
     let q = with_job(q, 2, 4000000000);
     let q = with_job(q, 3, 600000);
-    print_next(print_next(print_next(q)));
+    let q = print_next(out, q)?;
+    let q = print_next(out, q)?;
+    print_next(out, q)?;
+    Ok(())
 }
 
-fn main() {
-    night_shift();
-    document_example();
+fn main(rt: HostRuntime) -> io::Result<()> {
+    let out = rt.stdout();
+    night_shift(out)?;
+    document_example(out)
 }

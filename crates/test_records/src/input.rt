@@ -3,7 +3,7 @@
 // four; big-endian.
 ghost use Rattle.std.specs.Prelude.{◌<◌};
 
-use libc::STDIN_FILENO;
+use std::io::{Read, Stdin};
 
 #[derive(Clone, Copy)]
 pub(crate) struct Head {
@@ -20,10 +20,9 @@ pub(crate) enum Input {
 }
 
 // The eight bytes of the next case. Input that is cut off is at its end.
-pub(crate) fn read_head() -> Input {
+pub(crate) fn read_head(mut from: Stdin) -> Input {
     let mut head = [0u8; 8];
-    let got = io::read_full(STDIN_FILENO, &mut head);
-    if got < 8 {
+    if from.read_exact(&mut head).is_err() {
         return Input::End;
     }
     let high = wide(head[4]) * 256 + wide(head[5]);
@@ -38,13 +37,12 @@ pub(crate) fn read_head() -> Input {
 
 // Reads `n` bytes to the start of the buffer, and answers whether they were there and the buffer
 // could hold them.
-pub(crate) fn read_part(buf: &mut [u8], n: usize) -> bool {
+pub(crate) fn read_part(mut from: Stdin, buf: &mut [u8], n: usize) -> bool {
     if n > buf.len() {
         return false;
     }
     let start = 0;
-    let got = io::read_full(STDIN_FILENO, &mut buf[start..n]);
-    got == n
+    from.read_exact(&mut buf[start..n]).is_ok()
 }
 
 fn wide(b: u8) -> usize

@@ -19,6 +19,7 @@ use numbers::{fill, print_numbers, small};
 use record::{print_record, rows_of};
 use records::{Record, Span};
 use schema::Kind;
+use std::io::{Stdin, Stdout};
 
 // The ceiling that frames are read under: document 01's largest frame.
 const CEILING: u32 = 65536;
@@ -43,68 +44,76 @@ fn body_part<'a, 'b>(kind: Kind, frame: &'a [u8], ceiling: u32, rows: &'b mut [u
 }
 
 // Reads a frame and prints its parts, its record or the error code, and its rows. Reading it again leaves the row numbers as they are.
-fn print_frame(kind: Kind, frame: &[u8], rows: &mut [u32]) {
+fn print_frame(out: Stdout, kind: Kind, frame: &[u8], rows: &mut [u32]) {
     fill(rows);
     let located = read_spans(kind, frame, CEILING, rows);
-    print_parts(located, body_part(kind, frame, CEILING, rows), frame);
-    print_answer(answer_of(located), frame, rows);
+    print_parts(out, located, body_part(kind, frame, CEILING, rows), frame);
+    print_answer(out, answer_of(located), frame, rows);
 }
 
 fn answer_of(located: Located) -> Answer {
     located.answer
 }
 
-fn print_parts(located: Located, body: &[u8], frame: &[u8]) {
-    print_part(b"header=", located.header, frame);
-    print_body(body);
-    print_part(b"attachment=", located.attachment, frame);
+fn print_parts(out: Stdout, located: Located, body: &[u8], frame: &[u8]) {
+    print_part(out, b"header=", located.header, frame);
+    print_body(out, body);
+    print_part(out, b"attachment=", located.attachment, frame);
 }
 
-fn print_part(name: &[u8], span: Span, frame: &[u8]) {
+fn print_part(out: Stdout, name: &[u8], span: Span, frame: &[u8]) {
     let values = [span.start, span.len];
-    print_lines(name, &values, frame);
+    print_lines(out, name, &values, frame);
 }
 
-fn print_body(body: &[u8]) {
+fn print_body(out: Stdout, body: &[u8]) {
     let values = [0, small(body.len())];
-    print_lines(b"body=", &values, body);
+    print_lines(out, b"body=", &values, body);
 }
 
-fn print_answer(answer: Answer, frame: &[u8], rows: &[u32]) {
+fn print_answer(out: Stdout, answer: Answer, frame: &[u8], rows: &[u32]) {
     match answer {
-        Answer::Read(record) => print_read(record, frame, rows),
-        Answer::Refused(code) => print_refused(code, frame, rows),
+        Answer::Read(record) => print_read(out, record, frame, rows),
+        Answer::Refused(code) => print_refused(out, code, frame, rows),
     }
 }
 
-fn print_read(record: Record, frame: &[u8], rows: &[u32]) {
-    print_record(record, frame);
-    print_numbers(rows_of(record), frame, rows);
+fn print_read(out: Stdout, record: Record, frame: &[u8], rows: &[u32]) {
+    print_record(out, record, frame);
+    print_numbers(out, rows_of(record), frame, rows);
 }
 
-fn print_refused(code: u32, frame: &[u8], rows: &[u32]) {
+fn print_refused(out: Stdout, code: u32, frame: &[u8], rows: &[u32]) {
     let values = [code];
-    print_lines(b"refused%", &values, frame);
-    print_numbers(0, frame, rows);
+    print_lines(out, b"refused%", &values, frame);
+    print_numbers(out, 0, frame, rows);
 }
 
 // Prints a case, and answers whether it was whole.
-fn print_case(head: Head, label: &mut [u8], frame: &mut [u8], rows: &mut [u32]) -> bool {
+fn print_case(
+    from: Stdin,
+    out: Stdout,
+    head: Head,
+    label: &mut [u8],
+    frame: &mut [u8],
+    rows: &mut [u32],
+) -> bool {
     let length = head.label;
     let size = head.size;
     let lent = head.lent;
-    if !read_part(label, length) {
+    if !read_part(from, label, length) {
         return false;
     }
-    if !read_part(frame, size) {
+    if !read_part(from, frame, size) {
         return false;
     }
     if length > label.len() || size > frame.len() || lent > rows.len() {
         return false;
     }
     let start = 0;
-    print_label(&label[start..length]);
+    print_label(out, &label[start..length]);
     print_frame(
+        out,
         kind_of(head.kind),
         &frame[start..size],
         &mut rows[start..lent],
@@ -113,26 +122,32 @@ fn print_case(head: Head, label: &mut [u8], frame: &mut [u8], rows: &mut [u32]) 
 }
 
 // Prints the next case of the input, and answers whether there was one.
-fn print_next(label: &mut [u8], frame: &mut [u8], rows: &mut [u32]) -> bool {
-    let input = read_head();
+fn print_next(
+    from: Stdin,
+    out: Stdout,
+    label: &mut [u8],
+    frame: &mut [u8],
+    rows: &mut [u32],
+) -> bool {
+    let input = read_head(from);
     match input {
         Input::End => false,
-        Input::Case(head) => print_case(head, label, frame, rows),
+        Input::Case(head) => print_case(from, out, head, label, frame, rows),
     }
 }
 
 // A proved loop has to end, and nothing says that the input does: `turns` falls, from a number that
 // no run uses up.
-fn print_all(label: &mut [u8], frame: &mut [u8], rows: &mut [u32]) {
+fn print_all(from: Stdin, out: Stdout, label: &mut [u8], frame: &mut [u8], rows: &mut [u32]) {
     let mut turns = u64::MAX;
-    while turns > 0 && print_next(label, frame, rows) {
+    while turns > 0 && print_next(from, out, label, frame, rows) {
         turns -= 1;
     }
 }
 
-fn main() {
+fn main(rt: HostRuntime) {
     let mut label = [0u8; 255];
-    let mut frame = io::large_buffer();
+    let mut frame = [0u8; 65536];
     let mut rows = [0u32; 300];
-    print_all(&mut label, &mut frame, &mut rows);
+    print_all(rt.stdin(), rt.stdout(), &mut label, &mut frame, &mut rows);
 }

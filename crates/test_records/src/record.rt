@@ -1,15 +1,16 @@
 // A record: a line with its kind and id, one with its version, and one for each of its fields, in the order of source document 000.
 use crate::lines::print_lines;
 use records::{Close, Data, Feedback, Init, Record, Request, RequestMeta, Response, ResponseMeta};
+use std::io::Stdout;
 
-pub(crate) fn print_record(record: Record, frame: &[u8]) {
+pub(crate) fn print_record(out: Stdout, record: Record, frame: &[u8]) {
     match record {
-        Record::Request(r) => print_request(r, frame),
-        Record::Response(r) => print_response(r, frame),
-        Record::Init(r) => print_init(r, frame),
-        Record::Data(r) => print_data(r, frame),
-        Record::Feedback(r) => print_feedback(r, frame),
-        Record::Close(r) => print_close(r, frame),
+        Record::Request(r) => print_request(out, r, frame),
+        Record::Response(r) => print_response(out, r, frame),
+        Record::Init(r) => print_init(out, r, frame),
+        Record::Data(r) => print_data(out, r, frame),
+        Record::Feedback(r) => print_feedback(out, r, frame),
+        Record::Close(r) => print_close(out, r, frame),
     }
 }
 
@@ -24,13 +25,19 @@ pub(crate) fn rows_of(record: Record) -> u32 {
     }
 }
 
-fn print_first(names: &[u8], id: u32, version: u8, frame: &[u8]) {
+fn print_first(out: Stdout, names: &[u8], id: u32, version: u8, frame: &[u8]) {
     let values = [id, version as u32];
-    print_lines(names, &values, frame);
+    print_lines(out, names, &values, frame);
 }
 
-fn print_request(r: Request, frame: &[u8]) {
-    print_first(b"request%header_version%", r.id, r.header_version, frame);
+fn print_request(out: Stdout, r: Request, frame: &[u8]) {
+    print_first(
+        out,
+        b"request%header_version%",
+        r.id,
+        r.header_version,
+        frame,
+    );
     let values = [
         r.version,
         r.call_type,
@@ -50,11 +57,17 @@ fn print_request(r: Request, frame: &[u8]) {
     ];
     let names =
         b"version%call_type%request_id%timeout%caller$callee$func$message_type%content_type%content_encoding%attachment_size%rows%";
-    print_lines(names, &values, frame);
+    print_lines(out, names, &values, frame);
 }
 
-fn print_response(r: Response, frame: &[u8]) {
-    print_first(b"response%header_version%", r.id, r.header_version, frame);
+fn print_response(out: Stdout, r: Response, frame: &[u8]) {
+    print_first(
+        out,
+        b"response%header_version%",
+        r.id,
+        r.header_version,
+        frame,
+    );
     let values = [
         r.version,
         r.call_type,
@@ -71,17 +84,17 @@ fn print_response(r: Response, frame: &[u8]) {
     ];
     let names =
         b"version%call_type%request_id%ret-func_ret-error_msg$message_type%content_type%content_encoding%attachment_size%rows%";
-    print_lines(names, &values, frame);
+    print_lines(out, names, &values, frame);
 }
 
-fn print_init(r: Init, frame: &[u8]) {
-    print_first(b"init%header_version%", r.id, r.header_version, frame);
-    print_request_meta(r.request_meta, frame);
-    print_response_meta(r.response_meta, frame);
-    print_init_end(r, frame);
+fn print_init(out: Stdout, r: Init, frame: &[u8]) {
+    print_first(out, b"init%header_version%", r.id, r.header_version, frame);
+    print_request_meta(out, r.request_meta, frame);
+    print_response_meta(out, r.response_meta, frame);
+    print_init_end(out, r, frame);
 }
 
-fn print_init_end(r: Init, frame: &[u8]) {
+fn print_init_end(out: Stdout, r: Init, frame: &[u8]) {
     let values = [
         r.init_window_size,
         r.content_type,
@@ -89,13 +102,14 @@ fn print_init_end(r: Init, frame: &[u8]) {
         r.rows,
     ];
     print_lines(
+        out,
         b"init_window_size%content_type%content_encoding%rows%",
         &values,
         frame,
     );
 }
 
-fn print_request_meta(meta: RequestMeta, frame: &[u8]) {
+fn print_request_meta(out: Stdout, meta: RequestMeta, frame: &[u8]) {
     let values = [
         mark(meta.present),
         meta.caller.start,
@@ -108,10 +122,10 @@ fn print_request_meta(meta: RequestMeta, frame: &[u8]) {
     ];
     let names =
         b"request_meta?request_meta.caller$request_meta.callee$request_meta.func$request_meta.message_type%";
-    print_lines(names, &values, frame);
+    print_lines(out, names, &values, frame);
 }
 
-fn print_response_meta(meta: ResponseMeta, frame: &[u8]) {
+fn print_response_meta(out: Stdout, meta: ResponseMeta, frame: &[u8]) {
     let values = [
         mark(meta.present),
         bits(meta.ret),
@@ -119,27 +133,33 @@ fn print_response_meta(meta: ResponseMeta, frame: &[u8]) {
         meta.error_msg.len,
     ];
     let names = b"response_meta?response_meta.ret-response_meta.error_msg$";
-    print_lines(names, &values, frame);
+    print_lines(out, names, &values, frame);
 }
 
 fn mark(present: bool) -> u32 {
     if present { 1 } else { 0 }
 }
 
-fn print_data(r: Data, frame: &[u8]) {
-    print_first(b"data%header_version%", r.id, r.header_version, frame);
+fn print_data(out: Stdout, r: Data, frame: &[u8]) {
+    print_first(out, b"data%header_version%", r.id, r.header_version, frame);
     let values = [r.rows];
-    print_lines(b"rows%", &values, frame);
+    print_lines(out, b"rows%", &values, frame);
 }
 
-fn print_feedback(r: Feedback, frame: &[u8]) {
-    print_first(b"feedback%header_version%", r.id, r.header_version, frame);
+fn print_feedback(out: Stdout, r: Feedback, frame: &[u8]) {
+    print_first(
+        out,
+        b"feedback%header_version%",
+        r.id,
+        r.header_version,
+        frame,
+    );
     let values = [r.window_size_increment, r.rows];
-    print_lines(b"window_size_increment%rows%", &values, frame);
+    print_lines(out, b"window_size_increment%rows%", &values, frame);
 }
 
-fn print_close(r: Close, frame: &[u8]) {
-    print_first(b"close%header_version%", r.id, r.header_version, frame);
+fn print_close(out: Stdout, r: Close, frame: &[u8]) {
+    print_first(out, b"close%header_version%", r.id, r.header_version, frame);
     let values = [
         bits(r.close_type),
         bits(r.ret),
@@ -150,7 +170,7 @@ fn print_close(r: Close, frame: &[u8]) {
         r.rows,
     ];
     let names = b"close_type-ret-msg$message_type%func_ret-rows%";
-    print_lines(names, &values, frame);
+    print_lines(out, names, &values, frame);
 }
 
 fn bits(v: i32) -> u32 {

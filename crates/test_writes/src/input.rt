@@ -1,7 +1,7 @@
 // Numbers and bytes on standard input. A number is four bytes, big-endian.
 ghost use Rattle.std.specs.Prelude.{◌<◌, ◌≤◌, length};
 
-use libc::STDIN_FILENO;
+use std::io::{Read, Stdin};
 
 #[derive(Clone, Copy)]
 enum Number {
@@ -10,10 +10,9 @@ enum Number {
 }
 
 // The next number. Input that is cut off is at its end.
-fn read_number() -> Number {
+fn read_number(mut from: Stdin) -> Number {
     let mut bytes = [0u8; 4];
-    let got = io::read_full(STDIN_FILENO, &mut bytes);
-    if got < 4 {
+    if from.read_exact(&mut bytes).is_err() {
         return Number::End;
     }
     let high = wide(bytes[0]) * 256 + wide(bytes[1]);
@@ -23,13 +22,13 @@ fn read_number() -> Number {
 
 // Reads `n` numbers to the start of the buffer, and answers whether they were there and the buffer
 // could hold them.
-pub(crate) fn read_numbers(buf: &mut [u32], n: usize) -> bool {
+pub(crate) fn read_numbers(from: Stdin, buf: &mut [u32], n: usize) -> bool {
     if n > buf.len() {
         return false;
     }
     let mut i = 0;
     while i < n {
-        let next = read_number();
+        let next = read_number(from);
         match next {
             Number::End => {
                 return false;
@@ -44,18 +43,17 @@ pub(crate) fn read_numbers(buf: &mut [u32], n: usize) -> bool {
 }
 
 // The same of bytes.
-pub(crate) fn read_part(buf: &mut [u8], n: usize) -> bool {
+pub(crate) fn read_part(mut from: Stdin, buf: &mut [u8], n: usize) -> bool {
     if n > buf.len() {
         return false;
     }
     let start = 0;
-    let got = io::read_full(STDIN_FILENO, &mut buf[start..n]);
-    got == n
+    from.read_exact(&mut buf[start..n]).is_ok()
 }
 
 // Reads `period` bytes and repeats them up to `n` bytes, so that the input of long strings is short.
-pub(crate) fn read_repeated(buf: &mut [u8], period: usize, n: usize) -> bool {
-    if !read_part(buf, period) {
+pub(crate) fn read_repeated(from: Stdin, buf: &mut [u8], period: usize, n: usize) -> bool {
+    if !read_part(from, buf, period) {
         return false;
     }
     if n > buf.len() {
