@@ -2,7 +2,6 @@
 use mathlib.Core.Path.{sym, ◌∙◌}
 use native.Mathlib.Omega.{arith}
 use lib.Seq.{length-take-le}
-use borrow.Author.Rules.{rules}
 use Rattle.fixed_header.proofs.Codes.{ceiling_range}
 use Rattle.message.proofs.Readings.{bad_ceiling_lem, few_rows, short}
 use Rattle.message.proofs.Messages.{refusal}

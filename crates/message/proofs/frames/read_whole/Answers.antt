@@ -1,5 +1,4 @@
 -- A frame of another size or of another kind is refused with 9; any other is whole (`WholeFrames`).
-use borrow.Author.Rules.{rules}
 use Rattle.fixed_header.specs.Header.{max_frame}
 use mathlib.Core.Path.{sym, ◌∙◌}
 use Rattle.message.proofs.WholeFrames.{size_refused, kind_refused, whole_frame}
