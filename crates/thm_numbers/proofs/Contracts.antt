@@ -140,20 +140,12 @@ module _ {M : Type 1} {𝓤 : Ura M} (𝓛 : Logic 𝓤) (mem : Memory → SProp
   decode_ensures at end schema lent d after = refl
 
   -- ---- `writer_checks`
-<<<<<<< ours
-  pub content_error_ensures : (θ : Lft) (kind : Kind) (slots : Bor (List ℕ)) (count body_size code : ℕ)
-=======
   pub content_error_ensures : (θ : Lft) (kind : Kind) (slots : Bor (List ℕ)) (count : ℕ) (lent : Bor (List ℕ)) (body_size code : ℕ)
->>>>>>> theirs
       → (content_error_call.clauses 𝓛 mem run (θ, (κ, (ι, tt))) (kind, (slots, (count, (s, (lent, (body_size, tt))))))).ensures tt code
       (at_exit content_error_call.ended (θ, (κ, (ι, tt))) (kind, (slots, (count, (s, (lent, (body_size, tt))))))
       (tt, (tt, (tt, (tt, (tt, (tt, tt)))))))
       ≡ fact 𝓤 (AsEnsured (calls.content_error_call kind slots.now count s.now lent.now body_size code))
-<<<<<<< ours
-  content_error_ensures θ kind slots count body_size code = refl
-=======
   content_error_ensures θ kind slots count lent body_size code = refl
->>>>>>> theirs
 
   -- ---- `queue`
   pub queue_add_ensures : (q : Queue) (j : Job) (a : Added)
