@@ -2,10 +2,12 @@
 // type, id and total size, and last a line that says how the stream ended (document 01, "The listing").
 //
 // It reads in pieces, and for an input of any length it has three buffers: a piece of the input, the frame that the
-// deframer fills, and the text to print. An error of a read or a write ends it with a message on standard error.
+// deframer fills, and the text to print. An error of a read or a write ends it with a message on standard error, and a
+// status that is not 0.
 #![tactic(auto)]
 
 mod lines;
+mod streams;
 
 ghost use Rattle.std.specs.Prelude.{◌≡◌, ◌+◌, ◌<◌, ◌≤◌, true, false, length, take, drop};
 ghost use Rattle.fixed_header.specs.Header.{parsed, max_frame};
@@ -18,7 +20,10 @@ ghost use Rattle.listing.specs.Reads.{Printed, ListsNext, ListsInput};
 
 use deframer::{Deframer, Progress, Step};
 use fixed_header::{FixedHeader, Parsed};
-use libc::{STDIN_FILENO, STDOUT_FILENO};
+use std::io;
+use std::io::Read;
+use std::process::ExitCode;
+use streams::{Streams, fail};
 
 // The listing keeps document 01's ceiling.
 const CEILING: u32 = 65536;
@@ -33,23 +38,35 @@ struct Listing {
     done: bool,
 }
 
-fn main() {
-    let mut piece = io::large_buffer();
-    let mut buffer = io::large_buffer();
-    let mut text = io::large_buffer();
-    list(&mut piece, &mut buffer, &mut text);
+fn main(rt: HostRuntime) -> ExitCode {
+    let mut streams = Streams {
+        stdin: rt.stdin(),
+        stdout: rt.stdout(),
+        stderr: rt.stderr(),
+        alloc: rt.alloc(),
+        failed: false,
+    };
+    let mut piece = [0u8; 65536];
+    let mut buffer = [0u8; 65536];
+    let mut text = [0u8; 65536];
+    list(&mut streams, &mut piece, &mut buffer, &mut text);
+    if streams.failed {
+        ExitCode::FAILURE
+    } else {
+        ExitCode::SUCCESS
+    }
 }
 
 // A proved loop has to end, and nothing says that the input does. So the loop counts its reads down, from a number that no
 // run uses up.
-fn list(piece: &mut [u8], buffer: &mut [u8], text: &mut [u8])
+fn list(streams: &mut Streams, piece: &mut [u8], buffer: &mut [u8], text: &mut [u8])
     requires { (max_frame ≤ length buffer.old) × Text 0 text.old }
     ensures { ListsInput buffer.old text.old buffer.new text.new }
 {
     let mut listing = fresh();
     let mut reads = u64::MAX;
     while 0 < reads && !listing.done {
-        listing = list_next(listing, piece, buffer, text);
+        listing = list_next(streams, listing, piece, buffer, text);
         reads -= 1;
     }
 }
@@ -67,31 +84,43 @@ fn fresh() -> Listing
 }
 
 // Reads a piece and lists the frames that end in it, or at the end of the input lists the end.
-fn list_next(listing: Listing, piece: &mut [u8], buffer: &mut [u8], text: &mut [u8]) -> Listing
+fn list_next(
+    streams: &mut Streams,
+    listing: Listing,
+    piece: &mut [u8],
+    buffer: &mut [u8],
+    text: &mut [u8],
+) -> Listing
     requires { (max_frame ≤ length buffer.old) × Text listing.pending text.old }
     ensures { (result.pending ≤ length text.old)
         × ListsNext listing buffer.old text.old piece.new result buffer.new text.new }
 {
-    let got = libc::read(STDIN_FILENO, piece);
-    if got < 0 {
-        return input_failed(listing);
+    let n = match streams.stdin.read(piece) {
+        Ok(n) => n,
+        Err(e) => return input_failed(streams, listing, e),
+    };
+    if n == 0 {
+        return list_end(streams, listing, buffer, text);
     }
-    if got == 0 {
-        return list_end(listing, buffer, text);
-    }
-    let n = io::count(got, piece);
-    print(list_piece(listing, &piece[..n], buffer, text), text)
+    let listed = list_piece(streams, listing, &piece[..n], buffer, text);
+    print(streams, listed, text)
 }
 
-fn input_failed(listing: Listing) -> Listing
+fn input_failed(streams: &mut Streams, listing: Listing, error: io::Error) -> Listing
     ensures { (result.pending ≡ listing.pending) × (result.done ≡ true) }
 {
-    os::fail(b"listing: standard input");
+    fail(streams, "standard input", &error);
     stopped(listing)
 }
 
 // Lists the frames that end in the piece. A refused header in it is the end of what is listed.
-fn list_piece(listing: Listing, piece: &[u8], buffer: &mut [u8], text: &mut [u8]) -> Listing
+fn list_piece(
+    streams: &mut Streams,
+    listing: Listing,
+    piece: &[u8],
+    buffer: &mut [u8],
+    text: &mut [u8],
+) -> Listing
     requires { (max_frame ≤ length buffer.old) × Text listing.pending text.old }
     ensures pending_in_bounds { result.pending ≤ length text.old }
     ensures lists_piece { ListsPiece piece.now listing buffer.old text.old result
@@ -102,7 +131,7 @@ fn list_piece(listing: Listing, piece: &[u8], buffer: &mut [u8], text: &mut [u8]
     while from < piece.len() {
         let step = deframe_rest(listed.deframer, buffer, piece, from);
         from += step.taken;
-        listed = list_step(listed, step, buffer, text);
+        listed = list_step(streams, listed, step, buffer, text);
         if listed.done {
             break;
         }
@@ -121,7 +150,13 @@ fn deframe_rest(deframer: Deframer, buffer: &mut [u8], piece: &[u8], from: usize
 }
 
 // Lists what a call of the deframer came to.
-fn list_step(listing: Listing, step: Step, buffer: &[u8], text: &mut [u8]) -> Listing
+fn list_step(
+    streams: &mut Streams,
+    listing: Listing,
+    step: Step,
+    buffer: &[u8],
+    text: &mut [u8],
+) -> Listing
     requires { (max_frame ≤ length buffer.now) × Text listing.pending text.old }
     ensures { (result.pending ≤ length text.old) × (result.done ≡ false → is_refused step.progress ≡ false)
         × ListsStep step.progress buffer.now (with_deframer listing step.next) text.old result text.new }
@@ -135,14 +170,14 @@ fn list_step(listing: Listing, step: Step, buffer: &[u8], text: &mut [u8]) -> Li
         done: listing.done,
     };
     match progress {
-        Progress::Frame(_) => list_frame(listed, buffer, text),
+        Progress::Frame(_) => list_frame(streams, listed, buffer, text),
         Progress::NeedMore => listed,
-        Progress::Refused(_) => list_end(listed, buffer, text),
+        Progress::Refused(_) => list_end(streams, listed, buffer, text),
     }
 }
 
 // Lists the frame at the start of the buffer, whose header the deframer found good.
-fn list_frame(listing: Listing, buffer: &[u8], text: &mut [u8]) -> Listing
+fn list_frame(streams: &mut Streams, listing: Listing, buffer: &[u8], text: &mut [u8]) -> Listing
     requires { (max_frame ≤ length buffer.now) × Text listing.pending text.old }
     ensures { (result.pending ≤ length text.old)
         × ListsFrame (parsed max_frame (take 16 buffer.now)) listing text.old result text.new }
@@ -151,7 +186,7 @@ fn list_frame(listing: Listing, buffer: &[u8], text: &mut [u8]) -> Listing
     else {
         return listing;
     };
-    add_frame(with_room(listing, text), header, text)
+    add_frame(with_room(streams, listing, text), header, text)
 }
 
 // Adds a frame's line to what is to be printed.
@@ -167,12 +202,12 @@ fn add_frame(listing: Listing, header: FixedHeader, text: &mut [u8]) -> Listing
 }
 
 // Prints what is left to print, and the line that says how the stream ended.
-fn list_end(listing: Listing, buffer: &[u8], text: &mut [u8]) -> Listing
+fn list_end(streams: &mut Streams, listing: Listing, buffer: &[u8], text: &mut [u8]) -> Listing
     requires { (max_frame ≤ length buffer.now) × Text listing.pending text.old }
     ensures { ListsEnd buffer.now listing text.old result text.new }
 {
-    let listed = add_end(with_room(listing, text), buffer, text);
-    stopped(print(listed, text))
+    let listed = add_end(with_room(streams, listing, text), buffer, text);
+    stopped(print(streams, listed, text))
 }
 
 // Adds the end line to what is to be printed.
@@ -189,7 +224,7 @@ fn add_end(listing: Listing, buffer: &[u8], text: &mut [u8]) -> Listing
 }
 
 // Prints the text first where it has no room for another line.
-fn with_room(listing: Listing, text: &[u8]) -> Listing
+fn with_room(streams: &mut Streams, listing: Listing, text: &[u8]) -> Listing
     requires { Text listing.pending text.now }
     ensures { (result.pending + max_line ≤ length text.now) × (result.frames ≡ listing.frames) × (result.deframer ≡ listing.deframer)
         × (result.pending ≡ kept listing text.now) }
@@ -197,11 +232,11 @@ fn with_room(listing: Listing, text: &[u8]) -> Listing
     if lines::LINE <= text.len() - listing.pending {
         return listing;
     }
-    print(listing, text)
+    print(streams, listing, text)
 }
 
 // Prints the text, unless the listing is done.
-fn print(listing: Listing, text: &[u8]) -> Listing
+fn print(streams: &mut Streams, listing: Listing, text: &[u8]) -> Listing
     requires { listing.pending ≤ length text.now }
     ensures { Printed listing result }
 {
@@ -211,20 +246,22 @@ fn print(listing: Listing, text: &[u8]) -> Listing
     if listing.done {
         return printed;
     }
-    printed.done = !written(text, pending);
+    printed.done = !written(streams, text, pending);
     printed
 }
 
 // Writes the first bytes of the text. Where that fails, it says so on standard error.
-fn written(text: &[u8], n: usize) -> bool
+fn written(streams: &mut Streams, text: &[u8], n: usize) -> bool
     requires { n ≤ length text.now }
 {
     let start = 0;
-    if io::write_all(STDOUT_FILENO, &text[start..n]) {
-        return true;
+    match streams.stdout.write_all(&text[start..n]) {
+        Ok(()) => true,
+        Err(e) => {
+            fail(streams, "standard output", &e);
+            false
+        }
     }
-    os::fail(b"listing: standard output");
-    false
 }
 
 fn stopped(listing: Listing) -> Listing
