@@ -1,5 +1,5 @@
 -- Document 01, "The listing": its example, computed. The cutting of its 20 bytes is a row of `thm_examples`
-use Rattle.std.proofs.Common.{◌≡◌, List, [], ◌∷◌, ◌++◌, refl}
+use Rattle.std.proofs.Common.{◌≡◌, [], ◌∷◌, ◌++◌, refl}
 use Rattle.fixed_header.specs.Header.{max_frame, be16_of, be32_of, total_of, header_size_of, id_of, version_of, header_error, type_of, parsed}
 use Rattle.fixed_header.specs.Header.{ceiling_ok, magic_ok, data_type_ok, stream_type_ok, total_ok, header_size_ok, fault_of}
 use Rattle.fixed_header.specs.declared.FixedHeader.{FixedHeader}

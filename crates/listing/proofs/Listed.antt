@@ -1,5 +1,5 @@
 -- A line that was added to the text is listed
-use Rattle.std.proofs.Common.{◌≡◌, ℕ, ◌≤◌, List, ◌++◌, length, take, sym, refl, ap, ◌∙◌, subst, arith, length-append, length-take, length-take-le, take_at}
+use Rattle.std.proofs.Common.{◌≡◌, ℕ, ◌≤◌, List, ◌++◌, length, take, sym, refl, ap, ◌∙◌, subst, arith, length-append, length-take-le, take_at}
 use Rattle.deframer.specs.Deframe.{ended}
 use Rattle.deframer.specs.declared.Deframer.{Deframer}
 use Rattle.fixed_header.specs.Header.{max_frame}
