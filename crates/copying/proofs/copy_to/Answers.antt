@@ -5,36 +5,23 @@ use Rattle.copying.proofs.copy_to.Goals as goal
 
 pub slice_bounds-copy_parts-count : goal.slice_bounds-copy_parts-count
 slice_bounds-copy_parts-count c =
-    let at_room = c in
-    let entry = at_room in
-    let room = within entry.args.out.now entry.args.source.now _ _ at_room.has_room.ensures c.if-has_room.true in
+    let room = within c.args.out.now c.args.source.now _ _ c.has_room.ensures c.if-has_room.true in
     omega arith
 
 pub slice_bounds-copy_parts-start : goal.slice_bounds-copy_parts-start
 slice_bounds-copy_parts-start c =
-    let at_room = c in
-    let entry = at_room in
-    let room = within entry.args.out.now entry.args.source.now _ _ at_room.has_room.ensures c.if-has_room.true in
+    let room = within c.args.out.now c.args.source.now _ _ c.has_room.ensures c.if-has_room.true in
     omega arith
 
 pub copy_parts-requires : goal.copy_parts-requires
 copy_parts-requires c =
-    let at-if1 = c in
-    let at_room = at-if1 in
-    let entry = at_room in
-    rest_room entry.args.out.now entry.args.source.now _ _ at_room.has_room.ensures at-if1.if-has_room.true
+    rest_room c.args.out.now c.args.source.now _ _ c.has_room.ensures c.if-has_room.true
 
 pub returns-then-has_room : goal.returns-then-has_room
 returns-then-has_room c =
-    let at_copy = c in
-    let at-if1 = at_copy in
-    let at_room = at-if1 in
-    let entry = at_room in
-    all_stored entry.args.out.now entry.args.source.now _ _ at_room.has_room.ensures at-if1.if-has_room.true _
-    at_copy.copy_parts.ensures
+    all_stored c.args.out.now c.args.source.now _ _ c.has_room.ensures c.if-has_room.true _
+    c.copy_parts.ensures
 
 pub returns : goal.returns
 returns c =
-    let at_room = c in
-    let entry = at_room in
-    none_stored entry.args.out.now entry.args.source.now _ _ at_room.has_room.ensures c.if-has_room.false
+    none_stored c.args.out.now c.args.source.now _ _ c.has_room.ensures c.if-has_room.false

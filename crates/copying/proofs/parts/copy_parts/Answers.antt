@@ -20,19 +20,16 @@ loop-i-init c = record { place = omega arith; room = c.requires; size = refl; sa
 
 pub copy_part-requires : goal.copy_part-requires
 copy_part-requires c =
-    let at_end = c in
-    let at-loop = at_end.loop-i in
+    let at-loop = c.loop-i in
     let i = at-loop.i in
-    let k = at_end.part_end-end.result - i in
+    let k = c.part_end-end.result - i in
     let l = part_length at-loop.invariant i k (omega arith) (omega arith) (omega arith) in
     (omega arith, part_room at-loop.invariant i k (omega arith) (omega arith) (omega arith))
 
 pub loop-i-preserved : goal.loop-i-preserved
 loop-i-preserved c =
-    let at_copy = c in
-    let at_end = at_copy in
-    let end = at_end.part_end-end.ensures in
-    copied-to at_end.loop-i.invariant _ end.0 end.1 at_copy.copy_part.ensures
+    let end = c.part_end-end.ensures in
+    copied-to c.loop-i.invariant _ end.0 end.1 c.copy_part.ensures
 
 pub returns : goal.returns
 returns c = copied_all c.loop-i.invariant c.loop-i-test.false

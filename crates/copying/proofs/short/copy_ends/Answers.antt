@@ -23,19 +23,14 @@ module _ (source out₀ out tail : List ℕ) (size last rest : ℕ) (is_last : l
 
 pub slice_bounds-copy_part-end : goal.slice_bounds-copy_part-end
 slice_bounds-copy_part-end c =
-    let start = c in
-    sym (length-take-le start.args.size start.args.source.now start.requires.1)
+    sym (length-take-le c.args.size c.args.source.now c.requires.1)
 
 pub copy_part-requires : goal.copy_part-requires
 copy_part-requires c =
-    let start = c in
-    let long = length-take-le start.args.size start.args.source.now start.requires.1 in
+    let long = length-take-le c.args.size c.args.source.now c.requires.1 in
     (omega arith, omega arith)
 
 pub returns : goal.returns
 returns c =
-    let at_second = c in
-    let at_first = at_second in
-    let start = at_first in
-    both_ends start.args.source.now start.args.out.now _ _ start.args.size _ _ refl refl start.requires.1 start.requires.2
-    start.requires.3 at_first.copy_part.ensures at_second.copy_part-2.ensures
+    both_ends c.args.source.now c.args.out.now _ _ c.args.size _ _ refl refl c.requires.1 c.requires.2
+    c.requires.3 c.copy_part.ensures c.copy_part-2.ensures
