@@ -10,16 +10,14 @@ ghost use Rattle.queue.specs.Calls.{new_job, empty_queue, added, taken, cancelle
 use queue::{Job, Queue};
 
 // Makes the queue one in which nothing waits, whatever it held.
-#[unsafe(no_mangle)]
-pub extern "C" fn trpc_queue_init(q: &mut Queue)
+pub fn trpc_queue_init(q: &mut Queue)
     ensures { q.new ≡ empty_queue }
 {
     *q = queue::empty();
 }
 
 // Puts a job after those that wait; its `zero` is 0.
-#[unsafe(no_mangle)]
-pub extern "C" fn trpc_queue_add(
+pub fn trpc_queue_add(
     q: &mut Queue,
     connection: u32,
     request: u32,
@@ -42,8 +40,7 @@ pub extern "C" fn trpc_queue_add(
 }
 
 // Removes the job that is due first, of several the one accepted first.
-#[unsafe(no_mangle)]
-pub extern "C" fn trpc_queue_take(q: &mut Queue, removed: &mut Job) -> u32
+pub fn trpc_queue_take(q: &mut Queue, removed: &mut Job) -> u32
     ensures { record { queue = q.new; job = removed.new; error = result } ≡ taken q.old }
 {
     let taken = queue::take(*q);
@@ -53,8 +50,7 @@ pub extern "C" fn trpc_queue_take(q: &mut Queue, removed: &mut Job) -> u32
 }
 
 // Removes the job of a pair.
-#[unsafe(no_mangle)]
-pub extern "C" fn trpc_queue_cancel(
+pub fn trpc_queue_cancel(
     q: &mut Queue,
     connection: u32,
     request: u32,
