@@ -1,7 +1,8 @@
 // The queue of waiting jobs, lent by the controller and updated in place (document 01, "Waiting jobs"), for C. Each function
 // reads the queue, calls the function by value of crate `queue`, stores the queue and the job of the answer, and returns its
 // error code: document 01's refusal number, and 0 where there is none. So each contract says that what the caller has
-// afterwards, put together as that answer, is the definition's answer for the queue as it was lent.
+// afterwards, put together as that answer, is the definition's answer for the queue as it was lent. `queue_in_place_c` exports
+// the functions.
 #![tactic(auto)]
 
 ghost use Rattle.std.specs.Prelude.{◌≡◌};
@@ -50,12 +51,7 @@ pub fn trpc_queue_take(q: &mut Queue, removed: &mut Job) -> u32
 }
 
 // Removes the job of a pair.
-pub fn trpc_queue_cancel(
-    q: &mut Queue,
-    connection: u32,
-    request: u32,
-    removed: &mut Job,
-) -> u32
+pub fn trpc_queue_cancel(q: &mut Queue, connection: u32, request: u32, removed: &mut Job) -> u32
     ensures { record { queue = q.new; job = removed.new; error = result }
         ≡ cancelled q.old connection request }
 {
