@@ -3,7 +3,6 @@ use Prim.Native.Nat.{ℕ, ◌+◌, min}
 use mathlib.Core.Path.{◌≡◌, refl, sym, ap, ◌∙◌}
 use lib.ListN.{length}
 use native.Mathlib.Omega.{arith}
-use borrow.Author.Rules.{rules}
 use Rattle.wire_read.proofs.PartLaws.{part_empty}
 use Rattle.decoder.proofs.PartEnds.{part_to_end}
 use Rattle.message.specs.Spans.{place_after}

@@ -1,7 +1,6 @@
 -- The places that `read_parts` answers are those of the definition's spans (`PartsOf`).
 use Prim.Native.Nat.{ℕ}
 use mathlib.Core.Path.{◌≡◌, refl, ◌∙◌}
-use borrow.Author.Rules.{rules}
 use lib.ListN.{length}
 use Rattle.message.specs.Frames.{Reading, read_frame}
 use Rattle.message.specs.Spans.{spans_of}

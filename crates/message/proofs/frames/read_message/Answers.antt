@@ -1,6 +1,5 @@
 -- The decoder reads the header that the definition reads; what its answer comes to is said in `Messages`.
 use native.Mathlib.Omega.{arith}
-use borrow.Author.Rules.{rules}
 use Rattle.message.proofs.PartPlaces.{header_size_lem, frame_size, within}
 use Rattle.message.proofs.Messages.{few_decoded, fields_refused, attachment_refused, message_read}
 use Rattle.message.proofs.frames.read_message.Goals as goal

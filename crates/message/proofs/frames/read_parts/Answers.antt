@@ -2,8 +2,6 @@
 use mathlib.Core.Path.{sym, ◌∙◌}
 use native.Mathlib.Omega.{arith}
 use lib.Seq.{length-take-le}
-use borrow.Author.Rules.{rules}
-use Rattle.laws.proofs.Tests.{fails, holds}
 use Rattle.fixed_header.proofs.Codes.{ceiling_range}
 use Rattle.message.proofs.Readings.{bad_ceiling_lem, few_rows, short}
 use Rattle.message.proofs.Messages.{refusal}
@@ -14,19 +12,19 @@ pub returns-then-not-ceiling_ok : goal.returns-then-not-ceiling_ok
 returns-then-not-ceiling_ok c =
     refusal
     (bad_ceiling_lem c.args.ceiling c.args.kind c.args.frame.now c.args.rows.now
-    (fails c.ceiling_ok.ensures c.if-not-ceiling_ok.true-raw))
+    (sym c.ceiling_ok.ensures ∙ c.if-not-ceiling_ok.true))
     c.refused.ensures
 
 pub returns-then-rows-lt-ROW_NUMBERS : goal.returns-then-rows-lt-ROW_NUMBERS
 returns-then-rows-lt-ROW_NUMBERS c =
-    let in_range = ceiling_range c.args.ceiling (holds c.ceiling_ok.ensures c.if-not-ceiling_ok.false-raw) in
+    let in_range = ceiling_range c.args.ceiling (sym c.ceiling_ok.ensures ∙ c.if-not-ceiling_ok.false) in
     refusal
     (few_rows c.args.ceiling in_range c.args.kind c.args.frame.now c.args.rows.now c.if-rows-lt-ROW_NUMBERS.true)
     c.refused-then-rows-lt-ROW_NUMBERS.ensures
 
 pub returns-then-frame-lt-HEADER : goal.returns-then-frame-lt-HEADER
 returns-then-frame-lt-HEADER c =
-    let in_range = ceiling_range c.args.ceiling (holds c.ceiling_ok.ensures c.if-not-ceiling_ok.false-raw) in
+    let in_range = ceiling_range c.args.ceiling (sym c.ceiling_ok.ensures ∙ c.if-not-ceiling_ok.false) in
     refusal
     (short c.args.ceiling c.args.kind c.args.frame.now c.args.rows.now c.if-rows-lt-ROW_NUMBERS.false in_range
     c.if-frame-lt-HEADER.true)

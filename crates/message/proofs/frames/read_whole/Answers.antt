@@ -1,7 +1,6 @@
 -- A frame of another size or of another kind is refused with 9; any other is whole (`WholeFrames`).
-use borrow.Author.Rules.{rules}
 use Rattle.fixed_header.specs.Header.{max_frame}
-use Rattle.laws.proofs.Tests.{fails, holds}
+use mathlib.Core.Path.{sym, ◌∙◌}
 use Rattle.message.proofs.WholeFrames.{size_refused, kind_refused, whole_frame}
 use Rattle.message.proofs.frames.read_whole.Goals as goal
 
@@ -13,7 +12,7 @@ returns-then-frame-header c =
 pub returns-then-not-kind_fits : goal.returns-then-not-kind_fits
 returns-then-not-kind_fits c =
     kind_refused max_frame c.args.kind c.args.frame.now c.args.rows.now c.requires.0 c.requires.1
-    c.args.header c.requires.2 c.if-frame-header.false (fails c.kind_fits.ensures c.if-not-kind_fits.true-raw)
+    c.args.header c.requires.2 c.if-frame-header.false (sym c.kind_fits.ensures ∙ c.if-not-kind_fits.true)
     c.refused-then-not-kind_fits.ensures
 
 pub read_message-requires : goal.read_message-requires
@@ -21,5 +20,5 @@ read_message-requires c = (
   c.requires.0,
   whole_frame max_frame c.args.kind c.args.frame.now c.args.rows.now c.requires.0
       c.requires.1 c.args.header c.requires.2 c.if-frame-header.false
-      (holds c.kind_fits.ensures c.if-not-kind_fits.false-raw),
+      (sym c.kind_fits.ensures ∙ c.if-not-kind_fits.false),
 )
