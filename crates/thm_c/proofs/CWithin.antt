@@ -6,7 +6,7 @@
 -- Not promised: which bytes are there (`CReadOf` says it), and anything of the row numbers past the rows that are counted.
 -- Ruled out: a length that passes the end of the frame, and an end given for a length.
 use Prim.Native.Nat.{ℕ, ◌%◌}
-use mathlib.Core.Path.{◌≡◌, refl, ap, sym, subst, ◌∙◌}
+use mathlib.Core.Path.{◌≡◌, refl, sym, subst}
 use mathlib.Core.List.{List, [], ◌∷◌, ◌++◌}
 use lib.ListN.{length, take, get_or}
 use Rattle.decoder.specs.Rows.{rows_in}
