@@ -8,7 +8,6 @@ use lib.Dec.{eqb}
 use native.Mathlib.Omega.{arith}
 use Rattle.fixed_header.specs.Header.{max_frame}
 use Rattle.wire_read.specs.Part.{part}
-use Rattle.wire_read.specs.declared.Field.{Field}
 use Rattle.wire_read.specs.declared.Field.TheVariants as fields
 use Rattle.wire_walk.specs.Reader.{step_at}
 use Rattle.wire_walk.specs.declared.Step.{Step}

@@ -1,12 +1,11 @@
 -- The loop of `read_fields`: the slots and the row numbers hold what the fields up to a place gave, and what is left to read is what is
 -- left of the whole.
-use Prim.Native.Nat.{ℕ, ◌+◌, ◌<◌, ◌≤◌}
+use Prim.Native.Nat.{ℕ, ◌<◌, ◌≤◌}
 use mathlib.Core.Path.{◌≡◌, refl, sym, subst, ◌∙◌}
 use mathlib.Core.List.{List}
 use lib.ListN.{length, take, drop}
 use native.Mathlib.Omega.{arith}
 use Rattle.fixed_header.specs.Header.{max_frame}
-use Rattle.wire_read.specs.Part.{part}
 use Rattle.wire_read.specs.declared.Field.{Field}
 use Rattle.wire_read.specs.declared.Field.TheVariants as fields
 use Rattle.wire_walk.specs.Reader.{step_at}

@@ -3,14 +3,14 @@ use Prim.Native.Nat.{ℕ, zero, suc, ◌+◌, ◌*◌, ◌-◌, ◌/◌, ◌<◌
 use mathlib.Core.Path.{◌≡◌, refl, sym, ap, subst, ◌∙◌}
 use mathlib.Core.Bool.{Bool, true, false, ◌&&◌}
 use mathlib.Core.List.{List, [], ◌∷◌, ◌++◌, append_assoc}
-use lib.ListN.{length, take, drop, get_or, set, replicate, length-append, length-drop, length-replicate}
+use lib.ListN.{length, drop, get_or, set, replicate, length-append, length-drop, length-replicate}
 use lib.Seq.{drop_at, drop-cons, drop-drop, set_at, get_or-drop}
 use lib.Dec.{eqb}
 use native.Mathlib.Omega.{arith}
 use native.Mathlib.Numerals.{add-one}
 use borrow.Author.Tests.{eq-eqb, eqb-true}
 use Rattle.decoder.specs.Rows.{Row, row_numbers, flat, laid_out, rows_in, rows_lent}
-use Rattle.decoder.specs.Fields.{State, part_of, same_bytes}
+use Rattle.decoder.specs.Fields.{State, same_bytes}
 use Rattle.decoder.specs.DecoderState.{state_of, Holds}
 use Rattle.decoder.specs.declared.Slots.{Slots}
 

@@ -1,11 +1,11 @@
 -- Only for the private functions of this crate, and imported by no other: what they promise to each other. The slots and the lent row
 -- numbers are reported as the state of `Fields`. What `decode` answers is in `Decoding`.
-use Rattle.std.specs.Prelude.{ℕ, suc, ◌+◌, ◌-◌, ◌<◌, ◌≤◌, ◌≡◌, cond, List, [], ◌∷◌, length, drop, get_or, set, eqb}
+use Rattle.std.specs.Prelude.{ℕ, ◌+◌, ◌-◌, ◌<◌, ◌≤◌, ◌≡◌, cond, List, length, drop, get_or, set, eqb}
 use Rattle.wire_read.specs.Part.{part}
 use Rattle.wire_read.specs.Varint.{low_u32}
 use Rattle.schema.specs.Schema.{part_schema, slot_at}
 use Rattle.decoder.specs.Rows.{Row, row_numbers, laid_out, rows_in}
-use Rattle.decoder.specs.Fields.{State, Result, ok, refused, start_of, part_of, same_bytes, with_field, fields_in}
+use Rattle.decoder.specs.Fields.{State, Result, ok, refused, start_of, with_field, fields_in}
 use Rattle.schema.specs.Targets.{Target, a_number, some_bytes, an_entry, a_message, unknown}
 use Rattle.decoder.specs.declared.Slots.{Slots}
 use Rattle.decoder.specs.declared.Decoded.{Decoded}

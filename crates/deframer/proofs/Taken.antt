@@ -1,7 +1,7 @@
 -- How many bytes of its piece a call of the deframer takes: never more than there are, and at least one where there is one and no header is
 -- refused. So a loop that hands over what is left of a piece, until nothing is or a header is refused, stays within the piece and ends.
 -- Under every ceiling c, in range or not
-use Prim.Native.Nat.{ℕ, ◌-◌, ◌≤◌, ◌<◌}
+use Prim.Native.Nat.{ℕ, ◌≤◌, ◌<◌}
 use mathlib.Core.Path.{◌≡◌, refl, sym, ap, subst, ◌∙◌}
 use mathlib.Core.Bool.{Bool, true, false}
 use mathlib.Core.List.{List}

@@ -6,7 +6,7 @@ use lib.ListN.{length}
 use lib.Seq.{take_all}
 use native.Mathlib.Omega.{arith}
 use Rattle.decoder.specs.Rows.{Row}
-use Rattle.message.specs.Meaning.{Bytes, bytes_from, all_of, Pair, pairs_of}
+use Rattle.message.specs.Meaning.{bytes_from, all_of, pairs_of}
 
 -- all bytes of a source
 pub whole_source : (source : List ℕ) → bytes_from source 0 (length source) ≡ all_of source

@@ -47,6 +47,7 @@ fn refused(code: u32) -> Parts
 }
 
 // Whether a frame of these types is one of the kind.
+#[tactic(auto, unfolding(crate::specs::Frames::kind_fits))]
 fn kind_fits(kind: Kind, data_type: u8, stream_type: u8) -> bool
     ensures { result ≡ kind_fits kind data_type stream_type }
 {
@@ -70,6 +71,7 @@ fn is_stream(data_type: u8, stream_type: u8, wanted: u8) -> bool
 }
 
 // The place after the header: the message of a stream frame is its header, and Data has only a body.
+#[tactic(auto, unfolding(crate::specs::Parts::body_at))]
 fn body_at(kind: Kind, header_size: usize, size: usize) -> usize
     requires { header_size ≤ 65535 }
     ensures { result ≡ body_at kind header_size size }
@@ -85,6 +87,7 @@ fn body_at(kind: Kind, header_size: usize, size: usize) -> usize
 }
 
 // The attachment size that a request or a response names; 0 of the other kinds.
+#[tactic(auto, unfolding(records::specs::Records::attachment_size_of))]
 fn attachment_size(kind: Kind, v: [u32; 16]) -> u32
     ensures { result ≡ attachment_size_of kind v }
 {

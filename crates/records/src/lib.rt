@@ -129,6 +129,7 @@ pub struct Outline {
 }
 
 // The record of a message whose slots have these values, with that many rows.
+#[tactic(auto, unfolding(crate::specs::Records::record_of))]
 pub fn record_of(kind: Kind, id: u32, header_version: u8, v: [u32; 16], rows: u32) -> Record
     ensures { result ≡ record_of kind id header_version v rows }
 {
@@ -164,6 +165,7 @@ fn beside(kind: Kind, id: u32, header_version: u8, rows: u32) -> Outline
 }
 
 // Stores the fields of a record by the order of its kind's schema, as `record_of` takes them, and returns what else it is.
+#[tactic(auto, unfolding(crate::specs::Content::kind_of, crate::specs::Content::record_id, crate::specs::Content::record_version, crate::specs::Content::row_count, crate::specs::Content::slots_of))]
 pub fn slots_of(record: Record, slots: &mut [u32; 16]) -> Outline
     ensures { (result.kind ≡ kind_of «record») × (result.id ≡ record_id «record») × (result.header_version ≡ record_version «record»)
         × (result.rows ≡ row_count «record») × (slots.new ≡ slots_of «record») }

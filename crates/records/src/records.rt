@@ -1,4 +1,6 @@
 // The record of each kind that has more than one field, made of the slots of its message.
+#![tactic(auto, unfolding(crate::specs::Records::record_of))]
+
 ghost use Rattle.std.specs.Prelude.{◌≡◌};
 ghost use Rattle.wire_read.specs.Varint.{low_i32};
 ghost use Rattle.records.specs.Records.{request_meta_of, response_meta_of, record_of};

@@ -1,4 +1,6 @@
 // The slots of each kind that has fields.
+#![tactic(auto, unfolding(crate::specs::Content::slots_of))]
+
 ghost use Rattle.std.specs.Prelude.{◌≡◌};
 ghost use Rattle.records.specs.declared.Record.TheVariants as records;
 ghost use Rattle.records.specs.Content.{bits, mark, slots_of};

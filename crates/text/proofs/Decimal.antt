@@ -2,14 +2,14 @@
 use Prim.Native.Nat.{ℕ, zero, suc, ◌+◌, ◌*◌, ◌-◌, ◌/◌, ◌^◌, ◌≤◌, ◌<◌}
 use mathlib.Core.Path.{◌≡◌, refl, ap, sym, subst, ◌∙◌}
 use mathlib.Core.Bool.{Bool, true, false, cond}
-use mathlib.Core.List.{List, [], ◌∷◌, ◌++◌}
+use mathlib.Core.List.{List}
 use native.Mathlib.Omega.{arith}
 use native.Mathlib.Nat.{pow-le-pow_right, pow-suc, div-lt_iff_lt-mul, div-mul-le_self}
 use native.Mathlib.Decide.{dec_le}
 use lib.Dec.{ltb}
 use lib.ListN.{length, length-append}
 use borrow.Author.Tests.{ltb-true, ltb-false}
-use Rattle.io.specs.Digits.{last_digits, IsDigitCount}
+use Rattle.text.specs.Digits.{last_digits, IsDigitCount}
 use Rattle.text.specs.Numbers.{places_in, decimal}
 use Rattle.text.specs.Added.{added, Adds}
 use Rattle.text.proofs.Adding.{adds_few}
@@ -53,7 +53,7 @@ places_fewest (suc steps) n h = go (λ (big : 10 ≤ n). places_fewest steps (n 
     go rest true e = (omega arith, omega (arith, ltb-true n 10 e), λ l. absurd (omega arith))
     go rest false e = let big : 10 ≤ n = omega (arith, ltb-false n 10 e) in longer n _ big (rest big)
 
--- what `io::decimal` makes of a number
+-- what `number::decimal` makes of a number
 pub digits_decimal : (n k : ℕ) → IsDigitCount 10 1 n k → last_digits 10 k n ≡ decimal n
 unfolding decimal
 digits_decimal n k f = ap (λ (j : ℕ). last_digits 10 j n) (one_fewest n k (places_in n n) f (places_fewest n n (omega arith)))

@@ -1,3 +1,4 @@
 -- Text in a lent buffer
+pub mod Digits
 pub mod Numbers
 pub mod Added

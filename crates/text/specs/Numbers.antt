@@ -2,7 +2,7 @@
 use Rattle.std.specs.Prelude.{ℕ, zero, suc, ◌-◌, ◌/◌, ◌%◌, ◌^◌, cond, List, [], ◌∷◌, ◌++◌, ltb}
 use Prim.Native.Char.{code}
 use Prim.Native.String.{String, [] as empty, ◌∷◌ as ◌then◌}
-use Rattle.io.specs.Digits.{hex_digit_ascii, last_digits}
+use Rattle.text.specs.Digits.{hex_digit_ascii, last_digits}
 
 -- a text as bytes
 abbrev pub ascii : String → List ℕ

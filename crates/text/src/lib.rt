@@ -2,10 +2,14 @@
 // after it. Where there is no room, the buffer stays as it was and the place is FULL.
 #![tactic(auto)]
 
-ghost use Rattle.std.specs.Prelude.{◌≡◌, [], ◌∷◌, ◌<◌};
-ghost use Rattle.io.specs.Digits.{hex_digit_ascii};
+mod number;
+
+ghost use Rattle.std.specs.Prelude.{◌≡◌, [], ◌∷◌, ◌<◌, ◌≤◌, ◌++◌, length, take, drop};
+ghost use Rattle.text.specs.Digits.{hex_digit_ascii};
 ghost use Rattle.text.specs.Numbers.{decimal, signed, hex_byte};
 ghost use Rattle.text.specs.Added.{added, place_with_room};
+
+use std::io::Stdout;
 
 // There was no room. Nothing fits after this place either.
 pub const FULL: usize = 18446744073709551615;
@@ -20,8 +24,16 @@ pub fn add(text: &mut [u8], at: usize, word: &[u8]) -> usize
     if text.len() - at < word.len() {
         return FULL;
     }
-    bytes::copy(word, &mut text[at..]);
+    copy(word, &mut text[at..]);
     at + word.len()
+}
+
+// Copies a word to the start of a buffer that has room for it.
+fn copy(word: &[u8], out: &mut [u8])
+    requires { length word.now ≤ length out.old }
+    ensures { out.new ≡ take (length word.now) word.now ++ drop (length word.now) out.old }
+{
+    out[..word.len()].copy_from_slice(word);
 }
 
 // Adds one byte.
@@ -36,7 +48,7 @@ pub fn add_decimal(text: &mut [u8], at: usize, n: u64) -> usize
     ensures { record { bytes = text.new; place = result } ≡ added (decimal n) text.old at }
 {
     let mut digits = [0u8; 20];
-    let k = io::decimal(n, &mut digits);
+    let k = number::decimal(n, &mut digits);
     add(text, at, &digits[..k])
 }
 
@@ -69,7 +81,7 @@ fn digit(d: u8) -> u8
 
 // The place from which `n` bytes more can be added: `at` where there is room for them after it. Otherwise the text is printed
 // first, unless `at` is past the buffer, and the place is the buffer's start.
-pub fn with_room(text: &[u8], at: usize, n: usize) -> usize
+pub fn with_room(out: Stdout, text: &[u8], at: usize, n: usize) -> usize
     ensures { result ≡ place_with_room n text.now at }
 {
     if text.len() < at {
@@ -78,17 +90,17 @@ pub fn with_room(text: &[u8], at: usize, n: usize) -> usize
     if n <= text.len() - at {
         return at;
     }
-    print(text, at)
+    print(out, text, at)
 }
 
-// Prints the first `at` bytes of the buffer to standard output, and returns the place at its start. No contract can say what a
-// call of C writes.
-pub fn print(text: &[u8], at: usize) -> usize
+// Prints the first `at` bytes of the buffer to standard output, and returns the place at its start. No contract can say what
+// reaches standard output. Whether the write failed is dropped.
+pub fn print(out: Stdout, text: &[u8], at: usize) -> usize
     ensures { result ≡ 0 }
 {
     let start = 0;
     if at <= text.len() {
-        io::write_all(libc::STDOUT_FILENO, &text[start..at]);
+        let _ = out.write_all(&text[start..at]);
     }
     start
 }

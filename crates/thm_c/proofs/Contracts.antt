@@ -12,7 +12,7 @@ use prog.Memory.{Memory}
 use prog.Routine.{Routine}
 use types.Logic.{Logic}
 use contract.Monad.{Fun, fact}
-use denote.Ref.{Bor}
+use denote.Ref.{Bor, MutBor}
 use denote.Triple.Clauses.{at_exit}
 use Rattle.schema.specs.declared.Kind.TheVariants as kinds
 use Rattle.bekurapi.specs.contracts.trpc_header_check as header_check_lem
@@ -44,7 +44,7 @@ module _ {M : Type 1} {𝓤 : Ura M} (𝓛 : Logic 𝓤) (mem : Memory → SProp
       ≡ fact 𝓤 (CChecks ceiling bytes.now code)
   trpc_header_check_ensures bytes ceiling code = refl
 
-  pub trpc_header_parse_ensures : (bytes : Bor (List ℕ)) (ceiling : ℕ) (frame_type total header_size id version : Bor ℕ) (x : CParsed)
+  pub trpc_header_parse_ensures : (bytes : Bor (List ℕ)) (ceiling : ℕ) (frame_type total header_size id version : MutBor ℕ) (x : CParsed)
       → (header_parse.clauses 𝓛 mem run (a, (b, (c, (d, (e, (f, tt))))))
       (bytes, (ceiling, (frame_type, (total, (header_size, (id, (version, tt)))))))).ensures tt x.code
       (at_exit header_parse.ended (a, (b, (c, (d, (e, (f, tt))))))
@@ -53,7 +53,7 @@ module _ {M : Type 1} {𝓤 : Ura M} (𝓛 : Logic 𝓤) (mem : Memory → SProp
       ≡ fact 𝓤 (CParses ceiling bytes.now x)
   trpc_header_parse_ensures bytes ceiling frame_type total header_size id version x = refl
 
-  pub trpc_deframe_ensures : (held error : Bor ℕ) (buffer : Bor (List ℕ)) (ceiling : ℕ) (piece : Bor (List ℕ)) (taken size : Bor ℕ)
+  pub trpc_deframe_ensures : (held error : MutBor ℕ) (buffer : MutBor (List ℕ)) (ceiling : ℕ) (piece : Bor (List ℕ)) (taken size : MutBor ℕ)
       (x : CDeframed)
       → (deframe.clauses 𝓛 mem run (a, (b, (c, (d, (e, (f, tt))))))
       (held, (error, (buffer, (ceiling, (piece, (taken, (size, tt)))))))).ensures tt x.code
@@ -62,14 +62,14 @@ module _ {M : Type 1} {𝓤 : Ura M} (𝓛 : Logic 𝓤) (mem : Memory → SProp
       ≡ fact 𝓤 (CDeframes ceiling held.now error.now buffer.now piece.now x)
   trpc_deframe_ensures held error buffer ceiling piece taken size x = refl
 
-  pub trpc_finish_ensures : (held error : ℕ) (buffer : Bor (List ℕ)) (ceiling : ℕ) (short : Bor ℕ) (x : CFinished)
+  pub trpc_finish_ensures : (held error : ℕ) (buffer : Bor (List ℕ)) (ceiling : ℕ) (short : MutBor ℕ) (x : CFinished)
       → (finish.clauses 𝓛 mem run (a, (b, tt)) (held, (error, (buffer, (ceiling, (short, tt)))))).ensures tt x.code
       (at_exit finish.ended (a, (b, tt)) (held, (error, (buffer, (ceiling, (short, tt))))) (tt, (tt, (tt, (tt, (x.short_by, tt))))))
       ≡ fact 𝓤 (CFinishes ceiling held error buffer.now x)
   trpc_finish_ensures held error buffer ceiling short x = refl
 
   -- the six readers, which lend one frame, row numbers and the record
-  module _ (frame : Bor (List ℕ)) (ceiling : ℕ) (rows numbers : Bor (List ℕ)) (x : CRead) where
+  module _ (frame : Bor (List ℕ)) (ceiling : ℕ) (rows numbers : MutBor (List ℕ)) (x : CRead) where
     pub trpc_read_request_ensures :
         (read_request.clauses 𝓛 mem run (a, (b, (c, tt))) (frame, (ceiling, (rows, (numbers, tt))))).ensures tt x.code
         (at_exit read_request.ended (a, (b, (c, tt))) (frame, (ceiling, (rows, (numbers, tt)))) (tt, (tt, (x.rows, (x.numbers, tt)))))
@@ -107,7 +107,7 @@ module _ {M : Type 1} {𝓤 : Ura M} (𝓛 : Logic 𝓤) (mem : Memory → SProp
     trpc_read_close_ensures = refl
 
   -- the six writers
-  module _ (numbers source rows body out : Bor (List ℕ)) (ceiling : ℕ) (size : Bor ℕ) (x : CWritten) where
+  module _ (numbers source rows body : Bor (List ℕ)) (out : MutBor (List ℕ)) (ceiling : ℕ) (size : MutBor ℕ) (x : CWritten) where
     pub trpc_write_request_ensures : (write_request.clauses 𝓛 mem run (a, (b, (c, (d, (e, (f, tt))))))
         (numbers, (source, (rows, (body, (out, (ceiling, (size, tt)))))))).ensures tt x.code
         (at_exit write_request.ended (a, (b, (c, (d, (e, (f, tt)))))) (numbers, (source, (rows, (body, (out, (ceiling, (size, tt)))))))

@@ -10,7 +10,7 @@ use prog.Memory.{Memory}
 use prog.Routine.{Routine}
 use types.Logic.{Logic}
 use contract.Monad.{Fun, fact}
-use denote.Ref.{Bor}
+use denote.Ref.{MutBor}
 use denote.Triple.Clauses.{at_exit}
 use Rattle.queue.specs.declared.Job.{Job}
 use Rattle.queue.specs.declared.Queue.{Queue}
@@ -24,7 +24,7 @@ use Rattle.queue_in_place.specs.contracts.trpc_queue_cancel as cancel
 -- the queue and the job lent, the queue and the job afterwards, and the number returned
 module _
     {M : Type 1} {𝓤 : Ura M} (𝓛 : Logic 𝓤) (mem : Memory → SProp 𝓤) (run : Routine → Fun 𝓤) (κ ι : Lft)
-    (lent : Bor Queue) (room : Bor Job) (queue : Queue) (job : Job) (error : ℕ) where
+    (lent : MutBor Queue) (room : MutBor Job) (queue : Queue) (job : Job) (error : ℕ) where
   abbrev seen : Call → Seen
   seen c = record { call = c; queue = queue; job = job; error = error }
 

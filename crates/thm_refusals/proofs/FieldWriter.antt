@@ -8,7 +8,7 @@
 -- it refuses.
 -- Assumes nothing.
 use Prim.Native.Nat.{ℕ, ◌+◌, ◌*◌, ◌^◌, ◌<◌}
-use mathlib.Core.Path.{◌≡◌, refl, sym, ap, ap₂, subst, ◌∙◌}
+use mathlib.Core.Path.{◌≡◌, refl, sym, ap₂, subst, ◌∙◌}
 use mathlib.Core.Bool.{Bool, true, false, cond}
 use mathlib.Core.List.{List, ◌++◌}
 use lib.ListN.{length, take, drop}
@@ -19,13 +19,12 @@ use prog.Memory.{Memory}
 use prog.Routine.{Routine}
 use types.Logic.{Logic}
 use contract.Monad.{Fun, fact}
-use denote.Ref.{Bor}
+use denote.Ref.{Bor, MutBor}
 use denote.Triple.Clauses.{at_exit}
 use Rattle.copying.specs.Stored.{fits, stored}
 use Rattle.wire_write.specs.Writing.{put_varint, put_tag, put_bytes, good_tag, first_ground, answer}
 use Rattle.wire_write.specs.Writing.{written_at, tag_stored, tag_written}
 use Rattle.wire_write.specs.declared.Written.{Written}
-use Rattle.wire_write.specs.declared.Written.TheVariants as writes
 use Rattle.wire_write.specs.contracts.write_varint as write_varint
 use Rattle.wire_write.specs.contracts.write_tag as write_tag
 use Rattle.wire_write.specs.contracts.write_raw as write_raw
@@ -73,7 +72,7 @@ module _ (out : List ℕ) (at : ℕ) (x : List ℕ) where
 
 -- ---- and that this is what the contracts say, by computation
 module _ {M : Type 1} {𝓤 : Ura M} (𝓛 : Logic 𝓤) (mem : Memory → SProp 𝓤)
-    (run : Routine → Fun 𝓤) (κ ι : Lft) (at : ℕ) (out : Bor (List ℕ)) (r : Written) (after : List ℕ) where
+    (run : Routine → Fun 𝓤) (κ ι : Lft) (at : ℕ) (out : MutBor (List ℕ)) (r : Written) (after : List ℕ) where
   pub write_varint_ensures : (v : ℕ)
       → (write_varint.clauses 𝓛 mem run (κ, tt) (v, (out, (at, tt)))).ensures tt r
       (at_exit write_varint.ended (κ, tt) (v, (out, (at, tt))) (tt, (after, (tt, tt))))

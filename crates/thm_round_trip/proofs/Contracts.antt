@@ -12,7 +12,7 @@ use prog.Routine.{Routine}
 use types.Logic.{Logic}
 use contract.Lifetimes.{Lfts}
 use contract.Monad.{Fun, fact}
-use denote.Ref.{Bor}
+use denote.Ref.{Bor, MutBor}
 use denote.RattleType.{RattleType}
 use denote.Signature.{types_at}
 use denote.Triple.Clauses.{at_exit}
@@ -28,7 +28,7 @@ use Rattle.writer.specs.contracts.write_slots as write_slots
 use Rattle.thm_round_trip.specs.Calls.{Writes, Locates}
 
 pub write_ensures : {M : Type 1} {𝓤 : Ura M} (𝓛 : Logic 𝓤) (mem : Memory → SProp 𝓤) (run : Routine → Fun 𝓤) (a b c d : Lft)
-    (r : Record) (source rows body out : Bor (List ℕ)) (ceiling : ℕ) (answer : Encoded) (after : List ℕ)
+    (r : Record) (source rows body : Bor (List ℕ)) (out : MutBor (List ℕ)) (ceiling : ℕ) (answer : Encoded) (after : List ℕ)
     → (write.clauses 𝓛 mem run (a, (b, (c, (d, tt)))) (r, (source, (rows, (body, (out, (ceiling, tt))))))).ensures tt answer
     (at_exit write.ended (a, (b, (c, (d, tt)))) (r, (source, (rows, (body, (out, (ceiling, tt))))))
     (tt, (tt, (tt, (tt, (after, (tt, tt)))))))
@@ -36,7 +36,7 @@ pub write_ensures : {M : Type 1} {𝓤 : Ura M} (𝓛 : Logic 𝓤) (mem : Memor
 write_ensures 𝓛 mem run a b c d r source rows body out ceiling answer after = refl
 
 pub write_slots_ensures : {M : Type 1} {𝓤 : Ura M} (𝓛 : Logic 𝓤) (mem : Memory → SProp 𝓤) (run : Routine → Fun 𝓤)
-    (a b c d : Lft) (kind : Kind) (id version : ℕ) (slots : List ℕ) (count : ℕ) (source rows body out : Bor (List ℕ)) (ceiling : ℕ)
+    (a b c d : Lft) (kind : Kind) (id version : ℕ) (slots : List ℕ) (count : ℕ) (source rows body : Bor (List ℕ)) (out : MutBor (List ℕ)) (ceiling : ℕ)
     (answer : Encoded) (after : List ℕ)
     → (write_slots.clauses 𝓛 mem run (a, (b, (c, (d, tt))))
     (kind, (id, (version, (slots, (count, (source, (rows, (body, (out, (ceiling, tt))))))))))).ensures tt answer
@@ -53,7 +53,7 @@ pub write_takes : (κs : Lfts 4) → (others : List RattleType) × (types_at (wr
 write_takes κs = (_, refl)
 
 pub read_spans_ensures : {M : Type 1} {𝓤 : Ura M} (𝓛 : Logic 𝓤) (mem : Memory → SProp 𝓤) (run : Routine → Fun 𝓤) (a b : Lft)
-    (kind : Kind) (frame : Bor (List ℕ)) (ceiling : ℕ) (rows : Bor (List ℕ)) (x : Located) (after : List ℕ)
+    (kind : Kind) (frame : Bor (List ℕ)) (ceiling : ℕ) (rows : MutBor (List ℕ)) (x : Located) (after : List ℕ)
     → (read_spans.clauses 𝓛 mem run (a, (b, tt)) (kind, (frame, (ceiling, (rows, tt))))).ensures tt x
     (at_exit read_spans.ended (a, (b, tt)) (kind, (frame, (ceiling, (rows, tt)))) (tt, (tt, (tt, (after, tt)))))
     ≡ fact 𝓤 (Locates ceiling kind frame.now rows.now x after)

@@ -24,7 +24,7 @@ use Rattle.schema.specs.declared.Kind.{Kind}
 use Rattle.schema.specs.declared.Kind.TheVariants as kinds
 use Rattle.writer.specs.Encoding.{put_fields}
 use Rattle.writer_checks.specs.Grounds.{body_ok}
-use Rattle.writer.specs.Writing.{frame_type_of, header_size_of, header_for}
+use Rattle.writer.specs.Writing.{frame_type_of, header_size_of as header_size_for, header_for}
 
 -- ---- the fixed header
 -- a kind is that of its types
@@ -37,7 +37,7 @@ kind_fits_lem kinds.Data = refl
 kind_fits_lem kinds.Feedback = refl
 kind_fits_lem kinds.Close = refl
 
-size_fits : (t : FrameType) (n total : ℕ) → n ≤ total - 16 → header_size_ok (data_type_of t) total (header_size_of t n) ≡ true
+size_fits : (t : FrameType) (n total : ℕ) → n ≤ total - 16 → header_size_ok (data_type_of t) total (header_size_for t n) ≡ true
 unfolding header_size_ok
 size_fits Unary n total h = le-leb n (total - 16) h
 size_fits Init n total h = refl
@@ -82,7 +82,7 @@ module _ (kind : Kind) (id version : ℕ) (message body : List ℕ) where
         }
 
     -- it is whole, of its kind, and has its id and its version
-    pub frame_whole : Whole kind (header ++ message ++ body) (header_size_of (frame_type_of kind) (length message)) id version
+    pub frame_whole : Whole kind (header ++ message ++ body) (header_size_for (frame_type_of kind) (length message)) id version
     frame_whole =
         let h = header_for kind id version message body in
         rw frame_splits
@@ -126,7 +126,7 @@ module _ (source : List ℕ) (rows : List Row) (slots body f : List ℕ) where
 
   -- only Data has no message, and only the unary kinds and Data have a body
   pub parts_back : (kind : Kind) → drop 16 f ≡ message_in kind ++ body
-      → header_size_of f ≡ header_size_of (frame_type_of kind) (length (message_in kind))
+      → header_size_of f ≡ header_size_for (frame_type_of kind) (length (message_in kind))
       → body_ok kind slots (length body) ≡ true → (header_of kind f ≡ message_in kind) × (body_of kind f ≡ body)
   unfolding header_of body_of body_ok put_fields
   parts_back kinds.Request behind size ok = unary f (message_in kinds.Request) body behind size

@@ -12,7 +12,7 @@ use prog.Memory.{Memory}
 use prog.Routine.{Routine}
 use types.Logic.{Logic}
 use contract.Monad.{Fun, fact}
-use denote.Ref.{Bor}
+use denote.Ref.{Bor, MutBor}
 use denote.Triple.Clauses.{at_exit}
 use Rattle.deframer.specs.declared.Deframer.{Deframer}
 use Rattle.deframer.specs.declared.Step.{Step}
@@ -29,7 +29,7 @@ use Rattle.thm_stream.specs.Trace.{Answers, Leaves, Finishes, Reads}
 
 -- what is lent, and what is in it afterwards
 module _ {M : Type 1} {𝓤 : Ura M} (𝓛 : Logic 𝓤) (mem : Memory → SProp 𝓤) (run : Routine → Fun 𝓤) (κ ι : Lft) where
-  pub deframe_ensures : (state : Deframer) (buffer : Bor (List ℕ)) (ceiling : ℕ) (piece : Bor (List ℕ)) (step : Step) (after : List ℕ)
+  pub deframe_ensures : (state : Deframer) (buffer : MutBor (List ℕ)) (ceiling : ℕ) (piece : Bor (List ℕ)) (step : Step) (after : List ℕ)
       → (deframe.clauses 𝓛 mem run (κ, (ι, tt)) (state, (buffer, (ceiling, (piece, tt))))).ensures tt step
       (at_exit deframe.ended (κ, (ι, tt)) (state, (buffer, (ceiling, (piece, tt)))) (tt, (after, (tt, (tt, tt)))))
       ≡ sep 𝓤 (fact 𝓤 (Answers ceiling state buffer.now piece.now (record { step = step; buffer = after })))
@@ -42,11 +42,11 @@ module _ {M : Type 1} {𝓤 : Ura M} (𝓛 : Logic 𝓤) (mem : Memory → SProp
       ≡ fact 𝓤 (Finishes ceiling state buffer.now end)
   finish_ensures state buffer ceiling end = refl
 
-  pub read_ensures : (kind : Kind) (frame : Bor (List ℕ)) (ceiling : ℕ) (rows : Bor (List ℕ)) (r : Reading) (after : List ℕ)
+  pub read_ensures : (kind : Kind) (frame : Bor (List ℕ)) (ceiling : ℕ) (rows : MutBor (List ℕ)) (r : Reading) (after : List ℕ)
       → (read.clauses 𝓛 mem run (κ, (ι, tt)) (kind, (frame, (ceiling, (rows, tt))))).ensures tt r
       (at_exit read.ended (κ, (ι, tt)) (kind, (frame, (ceiling, (rows, tt)))) (tt, (tt, (tt, (after, tt)))))
       ≡ fact 𝓤 (Reads ceiling kind frame.now rows.now
       (record { answer = r.answer; header = r.header.now; body = r.body.now; attachment = r.attachment.now; rows = after })
-      × PartsStand frame.ref_ptr (spans_of (read_frame ceiling kind frame.now rows.now) (length frame.now)) r.header.ptr
-      r.body.ptr r.attachment.ptr)
+      × PartsStand frame.ref_ptr (spans_of (read_frame ceiling kind frame.now rows.now) (length frame.now)) r.header.ref_ptr
+      r.body.ref_ptr r.attachment.ref_ptr)
   read_ensures kind frame ceiling rows r after = refl

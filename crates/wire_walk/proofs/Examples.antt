@@ -11,7 +11,7 @@ use Rattle.wire_read.specs.declared.Field.{Field}
 use Rattle.wire_read.specs.declared.Field.TheVariants as fields
 use Rattle.wire_walk.specs.Reader.{used_by}
 use Rattle.wire_walk.specs.Walk.{onward, walk_in, walk, placed}
-use Rattle.wire_walk.specs.Last.{replaces, last_of, last_field}
+use Rattle.wire_walk.specs.Last.{last_of, last_field}
 
 record Row : Type 0 where
   bytes : List ℕ

@@ -22,6 +22,7 @@ pub(crate) fn span_within(start: u32, len: u32, size: usize) -> bool
     (start as usize) + (len as usize) <= size
 }
 
+#[tactic(auto, unfolding(crate::specs::Grounds::spans_within))]
 fn request_within(values: &[u32; 16], size: usize) -> bool
     ensures { result ≡ spans_within size request 0 values.now }
 {
@@ -31,6 +32,7 @@ fn request_within(values: &[u32; 16], size: usize) -> bool
     caller & callee & func
 }
 
+#[tactic(auto, unfolding(crate::specs::Grounds::spans_within))]
 fn request_meta_within(values: &[u32; 16], size: usize) -> bool
     ensures { result ≡ spans_within size request_meta 1 values.now }
 {
@@ -40,6 +42,7 @@ fn request_meta_within(values: &[u32; 16], size: usize) -> bool
     caller & callee & func
 }
 
+#[tactic(auto, unfolding(crate::specs::Grounds::spans_within, schema::specs::Schema::width))]
 fn init_within(values: &[u32; 16], size: usize) -> bool
     ensures { result ≡ spans_within size init 0 values.now }
 {
@@ -48,6 +51,7 @@ fn init_within(values: &[u32; 16], size: usize) -> bool
     request & error_msg
 }
 
+#[tactic(auto, unfolding(crate::specs::Grounds::spans_within))]
 pub(crate) fn spans_within(kind: Kind, values: &[u32; 16], size: usize) -> bool
     ensures { result ≡ spans_within size (schema_of kind) 0 values.now }
 {
@@ -74,6 +78,7 @@ fn request_meta_zero(values: &[u32; 16], count: u32) -> bool
     names & message_type & (count == 0)
 }
 
+#[tactic(auto, unfolding(crate::specs::Grounds::all_zero))]
 fn response_meta_zero(values: &[u32; 16]) -> bool
     ensures { (rows : List Row) → result ≡ all_zero rows response_meta 9 values.now }
 {
@@ -89,6 +94,7 @@ fn part_ok(mark: u32, empty: bool) -> bool
     (mark != 0) | empty
 }
 
+#[tactic(auto, unfolding(crate::specs::Grounds::absent_ok, schema::specs::Schema::width))]
 fn parts_ok(values: &[u32; 16], count: u32) -> bool
     ensures { (l : List ℕ) → result ≡ absent_ok (rows_in count l) init 0 values.now }
 {
@@ -97,6 +103,7 @@ fn parts_ok(values: &[u32; 16], count: u32) -> bool
     request & response
 }
 
+#[tactic(auto, unfolding(crate::specs::Grounds::absent_ok))]
 pub(crate) fn absent_ok(kind: Kind, values: &[u32; 16], count: u32) -> bool
     ensures { (l : List ℕ) → result ≡ absent_ok (rows_in count l) (schema_of kind) 0 values.now }
 {
@@ -112,6 +119,7 @@ pub(crate) fn absent_ok(kind: Kind, values: &[u32; 16], count: u32) -> bool
 
 // ---- 15
 
+#[tactic(auto, unfolding(crate::specs::Grounds::body_ok, records::specs::Records::attachment_size_of))]
 pub(crate) fn body_ok(kind: Kind, values: &[u32; 16], size: usize) -> bool
     ensures { result ≡ body_ok kind values.now size }
 {

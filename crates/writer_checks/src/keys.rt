@@ -54,6 +54,7 @@ fn mark_key(source: &[u8], rows: &[u32], count: usize, i: usize, seen: &mut [u8;
 }
 
 // From the last row to the first.
+#[tactic(auto, unfolding(crate::specs::Grounds::keys_differ, crate::specs::Marks::Marked))]
 fn marks_differ(source: &[u8], rows: &[u32], count: usize, seen: &mut [u8; 256]) -> bool
     requires { RowsLie source.now rows.now count × (length seen.old ≡ 256) }
     ensures { result ≡ keys_differ source.now (rows_in count rows.now) }

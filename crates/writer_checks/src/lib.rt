@@ -32,6 +32,7 @@ fn last_ground(parts: bool, fits: bool) -> u32
 }
 
 // The error code of the first ground that holds, 0 for none.
+#[tactic(auto, unfolding(crate::specs::Grounds::content_error))]
 pub fn content_error(
     kind: Kind,
     values: &[u32; 16],

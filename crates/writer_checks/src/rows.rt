@@ -8,6 +8,7 @@ use schema::Kind;
 
 const MAX_ROWS: u32 = 64;
 
+#[tactic(auto, unfolding(crate::specs::Grounds::has_map))]
 fn has_map(kind: Kind) -> bool
     ensures { result ≡ has_map kind }
 {
@@ -22,6 +23,7 @@ fn has_map(kind: Kind) -> bool
 }
 
 // Few enough, with a kind that has a map, and all of them lent.
+#[tactic(auto, unfolding(crate::specs::Grounds::rows_ok))]
 pub(crate) fn rows_ok(kind: Kind, count: u32, lent: usize) -> bool
     ensures { result ≡ rows_ok kind count lent }
 {
@@ -42,6 +44,7 @@ fn row_within(rows: &[u32], i: usize, size: usize) -> bool
 }
 
 // From the last row to the first.
+#[tactic(auto, unfolding(crate::specs::Grounds::rows_within))]
 pub(crate) fn rows_within(rows: &[u32], count: usize, size: usize) -> bool
     requires { count * 4 ≤ length rows.now }
     ensures { result ≡ rows_within size (rows_in count rows.now) }

@@ -1,9 +1,0 @@
--- Slot by slot, the definition.
-use mathlib.Core.Path.{refl}
-use Rattle.records.specs.Content.{slots_of}
-use Rattle.records.proofs.slots.request_slots.Statement.{statement}
-use Rattle.records.proofs.slots.request_slots.Tie as tie
-
-pub request-slots-spec : {M : Type 1} → statement M
-unfolding slots_of
-request-slots-spec = tie.close (tie.spec (λ c. refl))

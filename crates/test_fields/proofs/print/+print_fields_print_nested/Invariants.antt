@@ -1,0 +1,13 @@
+-- The levels left fall from one `print_nested` to the next, twice each, and one more for the fields of a level. The loop counts its turns
+-- down.
+use Prim.Native.Nat.{◌+◌, ◌*◌, ◌-◌}
+use Rattle.test_fields.proofs.print.+print_fields_print_nested.Given as goal
+
+abbrev pub decreases-print_fields : goal.decreases-print_fields
+decreases-print_fields l = 2 * (32 - l.level) + 1
+
+abbrev pub decreases-print_nested : goal.decreases-print_nested
+decreases-print_nested l = 2 * (32 - l.level)
+
+abbrev pub decreases-print_fields-loop-turns : goal.decreases-print_fields-loop-turns
+decreases-print_fields-loop-turns l = l.turns

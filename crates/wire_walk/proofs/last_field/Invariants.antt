@@ -1,0 +1,14 @@
+-- `last_field` meets its contract: what is found so far and the fields from the place on give what all of them give, and the bytes left
+-- fall.
+use Prim.Native.Nat.{◌-◌}
+use mathlib.Core.Path.{◌≡◌}
+use lib.ListN.{length}
+use Rattle.wire_walk.specs.Last.{last_of, last_field}
+use Rattle.wire_walk.proofs.WalkLaws.{answers_from}
+use Rattle.wire_walk.proofs.last_field.Given as goal
+
+abbrev pub invariant-loop-at : goal.invariant-loop-at
+invariant-loop-at l = last_of l.tag l.found (answers_from l.bytes l.at) ≡ last_field l.tag l.bytes
+
+abbrev pub decreases-loop-at : goal.decreases-loop-at
+decreases-loop-at l = length l.bytes - l.at
