@@ -15,9 +15,9 @@ use mathlib.Core.Path.{◌≡◌, refl, ap, subst}
 use Prim.Native.Nat.{ℕ, zero, ◌+◌, ◌*◌, ◌-◌}
 use mathlib.Core.List.{List, [], ◌∷◌}
 use seplogic.Ra.Ura.{Ura}
-use seplogic.Ra.TreeShare.{full_share}
+use base.Fraction.{full_share}
 use lib.Dec.{T}
-use mir.Syntax.{Name, Ty, Place, place, Opd as Operand, copy, Rv as RValue, Body as Code, Fn, seq, assign, call}
+use mir.Syntax.{Callee, Ty, Place, place, Opd as Operand, copy, Rv as RValue, Body as Code, Fn, seq, assign, call}
 use mir.Val.{Val, vptr, WT, has_ty}
 use base.Logic.{SProp, ent, emp}
 use base.Fml.{Fml, GName, Lft, Share, ftrue, feq, fsep, fat, fdies, flft, fobs, fauth, fbor, fobor}
@@ -181,7 +181,7 @@ module _
 
     -- c is the callee's contract and x what it is called with; what it asks is had for nothing, and its `post` is an `Answer`
     pub calls_plain :
-        K → FmC 𝓤 H 𝓛.laws C → {f : Name} {xs : List Operand} (c : Contract 𝓤) → Triple 𝓤 (C f) c → (x : c.Ghost)
+        K → FmC 𝓤 H 𝓛.laws C → {f : Callee} {xs : List Operand} (c : Contract 𝓤) → Triple 𝓤 (C f) c → (x : c.Ghost)
         → ent 𝓤 (emp 𝓤) (c.pre x)
         → (S : PlainStruct) (φ : Value S → Type 0) (ensures : Value S → SProp 𝓤)
         → ((v : Val) → ent 𝓤 (c.post x v) (mean 𝓛 (Answer S ensures v))) → ((r : Value S) → ent 𝓤 (ensures r) (fact 𝓤 (φ r)))
@@ -197,8 +197,8 @@ module _
 
   pub concludes :
       AllGo 𝓛 T.signature.lifetimes T.signature.params T.kept hs
-      → (env : routines.Env) (key : Name) (f : Fn) → Closed 𝓤 H (tables 𝓤 H 𝓜 𝓡 env).C (tables 𝓤 H 𝓜 𝓡 env).Λ key f
-      → (d : Contract 𝓤) (callee : Name) (routine : routines.Routine) → env callee ≡ routine → Triple 𝓤 (𝓡.run routine) d
+      → (env : routines.Env) (key : Callee) (f : Fn) → Closed 𝓤 H (tables 𝓤 H 𝓜 𝓡 env).C (tables 𝓤 H 𝓜 𝓡 env).Λ key f
+      → (d : Contract 𝓤) (callee : Callee) (routine : routines.Routine) → env callee ≡ routine → Triple 𝓤 (𝓡.run routine) d
       → ((C : Calls 𝓤 H) (Λ : Loops 𝓤 H) → FmC 𝓤 H 𝓛.laws C → Triple 𝓤 (C callee) d → Walks 𝓛 T hs (WpFn 𝓤 H C Λ f) c)
       → Triple 𝓤 ((tables 𝓤 H 𝓜 𝓡 env).C key) (triple_of 𝓛 T.signature (closing 𝓛 T c))
   unfolding tables_of

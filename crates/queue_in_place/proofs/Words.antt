@@ -12,11 +12,11 @@ pub use base.Fml.{GName, Lft, Share, ftrue, flft}
 pub use prog.Memory.{Memory}
 pub use prog.Routine.{Routine}
 pub use prog.Wp.{Heap, Calls, Loops, WpFn}
-pub use ghost.Atoms.{Atoms, sem}
+pub use ghost.Atoms.{Atoms}
 pub use contract.Monad.{Fun, fact}
-unfoldable pub use contract.Running.{given_of, tables_of}
+unfoldable pub use contract.Running.{tables_of}
 pub use sound.WpLaws.{FmC}
-pub use types.Kit.{Given, Item, ‵, ⋆, ◌⊛◌, ◌$◌, ◌∵◌, !, qed, by, move, keep, drop, split, join, fsplit, fsplit3, fjoin, suffices, frame}
+pub use types.Kit.{Item, ‵, ⋆, ◌⊛◌, ◌$◌, ◌∵◌, !, qed, by, move, keep, drop, split, join, fsplit, fsplit3, fjoin, suffices, frame}
 pub use types.Kit.{done, split3, feq_i}
 pub use types.Run.{look, look_raw, init, stop, hop, fld, from, load, lit, of_opd, and_then, no_more, assigns, land, returns, enter}
 pub use types.Run.{alloc1, alloc0, params1, pass1, pass0, free0, unit_lit}

@@ -32,7 +32,7 @@ pub fn read<'a, 'b>(kind: Kind, frame: &'a [u8], ceiling: u32, rows: &'b mut [u3
         × (rows.new ≡ (read_frame ceiling kind frame.now rows.old).rows))
         × PartsStand frame.entry.ref_ptr
         (spans_of (read_frame ceiling kind frame.now rows.old) (length frame.now))
-        result.header.ptr result.body.ptr result.attachment.ptr }
+        result.header.ref_ptr result.body.ref_ptr result.attachment.ref_ptr }
 {
     let located = read_spans(kind, frame, ceiling, rows);
     Reading {

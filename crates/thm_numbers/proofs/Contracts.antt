@@ -14,7 +14,7 @@ use prog.Memory.{Memory}
 use prog.Routine.{Routine}
 use types.Logic.{Logic}
 use contract.Monad.{Fun, fact}
-use denote.Ref.{Bor}
+use denote.Ref.{Bor, MutBor}
 use denote.Triple.Clauses.{at_exit}
 use Rattle.wire_read.specs.declared.Varint.{Varint}
 use Rattle.wire_read.specs.declared.Tag.{Tag}
@@ -74,7 +74,7 @@ use Rattle.thm_numbers.specs.AnyCall.{AsEnsured}
 use Rattle.thm_numbers.specs.AnyCall as calls
 
 module _ {M : Type 1} {𝓤 : Ura M} (𝓛 : Logic 𝓤) (mem : Memory → SProp 𝓤) (run : Routine → Fun 𝓤) (κ ι : Lft)
-    (s lent : Bor (List ℕ)) where
+    (s : Bor (List ℕ)) where
   -- ---- `fixed_header`
   pub parse_header_ensures : (ceiling : ℕ) (p : Parsed)
       → (parse_header.clauses 𝓛 mem run (κ, tt) (s, (ceiling, tt))).ensures tt p
@@ -132,20 +132,20 @@ module _ {M : Type 1} {𝓤 : Ura M} (𝓛 : Logic 𝓤) (mem : Memory → SProp
   last_field_ensures t f = refl
 
   -- ---- `decoder`, with the row numbers afterwards
-  pub decode_ensures : (at end schema : ℕ) (d : Decoded) (after : List ℕ)
+  pub decode_ensures : (at end schema : ℕ) (lent : MutBor (List ℕ)) (d : Decoded) (after : List ℕ)
       → (decode.clauses 𝓛 mem run (κ, (ι, tt)) (s, (at, (end, (schema, (lent, tt)))))).ensures tt d
       (at_exit decode.ended (κ, (ι, tt)) (s, (at, (end, (schema, (lent, tt))))) (tt, (tt, (tt, (tt, (after, tt))))))
       ≡ sep 𝓤 (fact 𝓤 (AsEnsured (calls.decode s.now at end schema lent.now d)))
       (fact 𝓤 (after ≡ (decoded s.now at end schema lent.now).rows))
-  decode_ensures at end schema d after = refl
+  decode_ensures at end schema lent d after = refl
 
   -- ---- `writer_checks`
-  pub content_error_ensures : (θ : Lft) (kind : Kind) (slots : Bor (List ℕ)) (count body_size code : ℕ)
+  pub content_error_ensures : (θ : Lft) (kind : Kind) (slots : Bor (List ℕ)) (count : ℕ) (lent : Bor (List ℕ)) (body_size code : ℕ)
       → (content_error_call.clauses 𝓛 mem run (θ, (κ, (ι, tt))) (kind, (slots, (count, (s, (lent, (body_size, tt))))))).ensures tt code
       (at_exit content_error_call.ended (θ, (κ, (ι, tt))) (kind, (slots, (count, (s, (lent, (body_size, tt))))))
       (tt, (tt, (tt, (tt, (tt, (tt, tt)))))))
       ≡ fact 𝓤 (AsEnsured (calls.content_error_call kind slots.now count s.now lent.now body_size code))
-  content_error_ensures θ kind slots count body_size code = refl
+  content_error_ensures θ kind slots count lent body_size code = refl
 
   -- ---- `queue`
   pub queue_add_ensures : (q : Queue) (j : Job) (a : Added)
@@ -176,7 +176,7 @@ module _ {M : Type 1} {𝓤 : Ura M} (𝓛 : Logic 𝓤) (mem : Memory → SProp
   check_header_is bytes ceiling code = refl
 
   -- `deframer`: two facts, of the answer and of the buffer
-  pub deframe_is : (state : Deframer) (buffer : Bor (List ℕ)) (ceiling : ℕ) (piece : Bor (List ℕ)) (o : Out)
+  pub deframe_is : (state : Deframer) (buffer : MutBor (List ℕ)) (ceiling : ℕ) (piece : Bor (List ℕ)) (o : Out)
       → (P : Type 0) × ((Q : Type 0) × ((AsEnsured (calls.deframe ceiling state buffer.now piece.now o) ≡ (P × Q))
       × (left_of (stream.deframe_ensures 𝓛 mem run κ ι state buffer ceiling piece o.step o.buffer)
       ≡ sep 𝓤 (fact 𝓤 P) (fact 𝓤 Q))))
@@ -189,7 +189,7 @@ module _ {M : Type 1} {𝓤 : Ura M} (𝓛 : Logic 𝓤) (mem : Memory → SProp
   finish_is state buffer ceiling e = refl
 
   -- `wire_write`
-  module _ (at : ℕ) (out : Bor (List ℕ)) (x : FieldWriting) where
+  module _ (at : ℕ) (out : MutBor (List ℕ)) (x : FieldWriting) where
     pub write_varint_is : (v : ℕ)
         → left_of (field_writer.write_varint_ensures 𝓛 mem run κ ι at out x.answer x.output v)
         ≡ fact 𝓤 (AsEnsured (calls.write_varint v out.now at x))
@@ -211,7 +211,7 @@ module _ {M : Type 1} {𝓤 : Ura M} (𝓛 : Logic 𝓤) (mem : Memory → SProp
     write_bytes_is n content = refl
 
   -- `message` and `reader`, which ensures the places of the parts, too
-  module _ (kind : Kind) (frame : Bor (List ℕ)) (ceiling : ℕ) (rows : Bor (List ℕ)) (after : List ℕ) where
+  module _ (kind : Kind) (frame : Bor (List ℕ)) (ceiling : ℕ) (rows : MutBor (List ℕ)) (after : List ℕ) where
     pub read_spans_is : (x : Located)
         → left_of (round_trip.read_spans_ensures 𝓛 mem run κ ι kind frame ceiling rows x after)
         ≡ fact 𝓤 (AsEnsured (calls.read_spans ceiling kind frame.now rows.now x after))
@@ -222,11 +222,11 @@ module _ {M : Type 1} {𝓤 : Ura M} (𝓛 : Logic 𝓤) (mem : Memory → SProp
         ≡ fact 𝓤 (AsEnsured (calls.read ceiling kind frame.now rows.now
         (record { answer = r.answer; header = r.header.now; body = r.body.now; attachment = r.attachment.now; rows = after }))
         × PartsStand frame.ref_ptr (spans_of (read_frame ceiling kind frame.now rows.now) (length frame.now))
-        r.header.ptr r.body.ptr r.attachment.ptr)
+        r.header.ref_ptr r.body.ref_ptr r.attachment.ref_ptr)
     read_is r = refl
 
   -- `queue_in_place`
-  module _ (q : Bor Queue) (room : Bor Job) (s : Seen) where
+  module _ (q : MutBor Queue) (room : MutBor Job) (s : Seen) where
     pub trpc_queue_add_is : (c r t a : ℕ)
         → left_of (queue.add_ensures 𝓛 mem run κ ι q room s.queue s.job s.error c r t a)
         ≡ fact 𝓤 (AsEnsured (calls.trpc_queue_add q.now c r t a s))
@@ -244,12 +244,12 @@ module _ {M : Type 1} {𝓤 : Ura M} (𝓛 : Logic 𝓤) (mem : Memory → SProp
 
 -- `writer` and `bekurapi`
 module _ {M : Type 1} {𝓤 : Ura M} (𝓛 : Logic 𝓤) (mem : Memory → SProp 𝓤) (run : Routine → Fun 𝓤) (a b c d e f : Lft) where
-  pub write_is : (r : Record) (source rows body out : Bor (List ℕ)) (ceiling : ℕ) (w : Writing)
+  pub write_is : (r : Record) (source rows body : Bor (List ℕ)) (out : MutBor (List ℕ)) (ceiling : ℕ) (w : Writing)
       → left_of (round_trip.write_ensures 𝓛 mem run a b c d r source rows body out ceiling w.answer w.output)
       ≡ fact 𝓤 (AsEnsured (calls.write ceiling r source.now rows.now body.now out.now w))
   write_is r source rows body out ceiling w = refl
 
-  pub write_slots_is : (kind : Kind) (id version : ℕ) (slots : List ℕ) (count : ℕ) (source rows body out : Bor (List ℕ)) (ceiling : ℕ)
+  pub write_slots_is : (kind : Kind) (id version : ℕ) (slots : List ℕ) (count : ℕ) (source rows body : Bor (List ℕ)) (out : MutBor (List ℕ)) (ceiling : ℕ)
       (w : Writing)
       → left_of (round_trip.write_slots_ensures 𝓛 mem run a b c d kind id version slots count source rows body out ceiling
       w.answer w.output)
@@ -261,23 +261,23 @@ module _ {M : Type 1} {𝓤 : Ura M} (𝓛 : Logic 𝓤) (mem : Memory → SProp
       ≡ fact 𝓤 (AsEnsured (calls.trpc_header_check ceiling bytes.now code))
   trpc_header_check_is bytes ceiling code = refl
 
-  pub trpc_header_parse_is : (bytes : Bor (List ℕ)) (ceiling : ℕ) (frame_type total header_size_lem id version : Bor ℕ) (x : CParsed)
-      → left_of (c_calls.trpc_header_parse_ensures 𝓛 mem run a b c d e f bytes ceiling frame_type total header_size_lem id version x)
+  pub trpc_header_parse_is : (bytes : Bor (List ℕ)) (ceiling : ℕ) (frame_type total header_size id version : MutBor ℕ) (x : CParsed)
+      → left_of (c_calls.trpc_header_parse_ensures 𝓛 mem run a b c d e f bytes ceiling frame_type total header_size id version x)
       ≡ fact 𝓤 (AsEnsured (calls.trpc_header_parse ceiling bytes.now x))
-  trpc_header_parse_is bytes ceiling frame_type total header_size_lem id version x = refl
+  trpc_header_parse_is bytes ceiling frame_type total header_size id version x = refl
 
-  pub trpc_deframe_is : (held error : Bor ℕ) (buffer : Bor (List ℕ)) (ceiling : ℕ) (piece : Bor (List ℕ)) (taken size : Bor ℕ)
+  pub trpc_deframe_is : (held error : MutBor ℕ) (buffer : MutBor (List ℕ)) (ceiling : ℕ) (piece : Bor (List ℕ)) (taken size : MutBor ℕ)
       (x : CDeframed)
       → left_of (c_calls.trpc_deframe_ensures 𝓛 mem run a b c d e f held error buffer ceiling piece taken size x)
       ≡ fact 𝓤 (AsEnsured (calls.trpc_deframe ceiling held.now error.now buffer.now piece.now x))
   trpc_deframe_is held error buffer ceiling piece taken size x = refl
 
-  pub trpc_finish_is : (held error : ℕ) (buffer : Bor (List ℕ)) (ceiling : ℕ) (short : Bor ℕ) (x : CFinished)
+  pub trpc_finish_is : (held error : ℕ) (buffer : Bor (List ℕ)) (ceiling : ℕ) (short : MutBor ℕ) (x : CFinished)
       → left_of (c_calls.trpc_finish_ensures 𝓛 mem run a b c d e f held error buffer ceiling short x)
       ≡ fact 𝓤 (AsEnsured (calls.trpc_finish ceiling held error buffer.now x))
   trpc_finish_is held error buffer ceiling short x = refl
 
-  module _ (frame : Bor (List ℕ)) (ceiling : ℕ) (rows numbers : Bor (List ℕ)) (x : CRead) where
+  module _ (frame : Bor (List ℕ)) (ceiling : ℕ) (rows numbers : MutBor (List ℕ)) (x : CRead) where
     pub trpc_read_request_is :
         left_of (c_calls.trpc_read_request_ensures 𝓛 mem run a b c d e f frame ceiling rows numbers x)
         ≡ fact 𝓤 (AsEnsured (calls.trpc_read ceiling kinds.Request frame.now rows.now x))
@@ -308,7 +308,7 @@ module _ {M : Type 1} {𝓤 : Ura M} (𝓛 : Logic 𝓤) (mem : Memory → SProp
         ≡ fact 𝓤 (AsEnsured (calls.trpc_read ceiling kinds.Close frame.now rows.now x))
     trpc_read_close_is = refl
 
-  module _ (numbers source rows body out : Bor (List ℕ)) (ceiling : ℕ) (size : Bor ℕ) (x : CWritten) where
+  module _ (numbers source rows body : Bor (List ℕ)) (out : MutBor (List ℕ)) (ceiling : ℕ) (size : MutBor ℕ) (x : CWritten) where
     pub trpc_write_request_is :
         left_of (c_calls.trpc_write_request_ensures 𝓛 mem run a b c d e f numbers source rows body out ceiling size x)
         ≡ fact 𝓤 (AsEnsured (calls.trpc_write ceiling kinds.Request numbers.now source.now rows.now body.now out.now x))

@@ -69,7 +69,6 @@ pub(crate) fn spans_within(kind: Kind, values: &[u32; 16], size: usize) -> bool
 
 // ---- 18: a part that is absent and not empty. Of the rows only their count matters.
 
-#[tactic(auto, unfolding(crate::specs::Grounds::all_zero))]
 fn request_meta_zero(values: &[u32; 16], count: u32) -> bool
     ensures { (l : List ℕ) → result ≡ all_zero (rows_in count l) request_meta 1 values.now }
 {
