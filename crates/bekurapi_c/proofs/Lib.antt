@@ -1,4 +1,4 @@
--- Demand 1, of every export
+-- Demand 1, of every public entry
 pub mod AsksNothing
--- What C links promises what the library promises
-pub mod SameContracts
+-- Each export has the contract of the library's function that it calls
+pub mod AsTheLibrary

@@ -35,7 +35,15 @@ pub extern "C" fn trpc_header_parse(
         result frame_type.new total.new header_size.new id.new
         header_version.new }
 {
-    bekurapi::trpc_header_parse(bytes, ceiling, frame_type, total, header_size, id, header_version)
+    bekurapi::trpc_header_parse(
+        bytes,
+        ceiling,
+        frame_type,
+        total,
+        header_size,
+        id,
+        header_version,
+    )
 }
 
 // One call of the deframer, whose state is `held` and `error`, both 0 when fresh. Answers the error code; where it is 0, `size`
