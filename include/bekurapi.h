@@ -4,8 +4,8 @@
  * docs/PROTOCOL.md says what a frame is, field by field. Its section "Errors" has all error codes in one table, with
  * what to do about each.
  *
- * Link with libbekurapi.a and, for the queue, libqueue_in_place.a. `tools/built archives`
- * proves the library and writes both to target/staticlib/:
+ * Link with libbekurapi.a and, for the queue, libqueue_in_place.a. `tools/built archives` proves the library and
+ * writes both to target/staticlib/:
  *
  *     cc -Iinclude program.c target/staticlib/libbekurapi.a target/staticlib/libqueue_in_place.a
  *

@@ -4,7 +4,7 @@ use mathlib.Core.Path.{◌≡◌, refl, sym, ap, subst, ◌∙◌}
 use mathlib.Core.List.{List, ◌++◌, append-nil}
 use native.Mathlib.Omega.{arith}
 use native.Mathlib.Numerals.{add-one}
-use lib.ListN.{length, take, drop, get_or, set, replicate, length-drop, drop_of_length-le}
+use lib.ListN.{length, take, drop, get_or, set, replicate, length-drop}
 use lib.Seq.{paste, paste-suc, take_all}
 
 -- one number more

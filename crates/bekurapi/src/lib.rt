@@ -1,4 +1,4 @@
-// The library's interface for C: exported functions over numbers and slices. include/bekurapi.h declares them.
+// The library's interface for C: functions over numbers and slices, which crate `bekurapi_c` exports. include/bekurapi.h declares them.
 //
 // No function here has a `requires`: each takes every argument, and answers 0 or an error code of documents 01 and 02.
 #![tactic(auto)]

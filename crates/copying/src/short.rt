@@ -31,7 +31,9 @@ pub(crate) fn copy_short(source: &[u8], out: &mut [u8])
         copy_ends(source, out, 8);
     } else if 4 <= n {
         copy_ends(source, out, 4);
-    } else {
-        out[..n].copy_from_slice(source);
+    } else if 2 <= n {
+        copy_ends(source, out, 2);
+    } else if 1 <= n {
+        out[0] = source[0];
     }
 }

@@ -1,4 +1,4 @@
--- What the walks share, from the general down.
+-- Steps for a proof that walks the code over structs lent by `&mut`, from the general down. No proof here needs them now.
 mod Words
 pub mod Lent
 pub mod Structs

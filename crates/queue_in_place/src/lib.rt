@@ -1,7 +1,8 @@
 // The queue of waiting jobs, lent by the controller and updated in place (document 01, "Waiting jobs"), for C. Each function
 // reads the queue, calls the function by value of crate `queue`, stores the queue and the job of the answer, and returns its
 // error code: document 01's refusal number, and 0 where there is none. So each contract says that what the caller has
-// afterwards, put together as that answer, is the definition's answer for the queue as it was lent.
+// afterwards, put together as that answer, is the definition's answer for the queue as it was lent. `queue_in_place_c` exports
+// the functions.
 #![tactic(auto)]
 
 ghost use Rattle.std.specs.Prelude.{◌≡◌};
@@ -10,16 +11,14 @@ ghost use Rattle.queue.specs.Calls.{new_job, empty_queue, added, taken, cancelle
 use queue::{Job, Queue};
 
 // Makes the queue one in which nothing waits, whatever it held.
-#[unsafe(no_mangle)]
-pub extern "C" fn trpc_queue_init(q: &mut Queue)
+pub fn trpc_queue_init(q: &mut Queue)
     ensures { q.new ≡ empty_queue }
 {
     *q = queue::empty();
 }
 
 // Puts a job after those that wait; its `zero` is 0.
-#[unsafe(no_mangle)]
-pub extern "C" fn trpc_queue_add(
+pub fn trpc_queue_add(
     q: &mut Queue,
     connection: u32,
     request: u32,
@@ -42,8 +41,7 @@ pub extern "C" fn trpc_queue_add(
 }
 
 // Removes the job that is due first, of several the one accepted first.
-#[unsafe(no_mangle)]
-pub extern "C" fn trpc_queue_take(q: &mut Queue, removed: &mut Job) -> u32
+pub fn trpc_queue_take(q: &mut Queue, removed: &mut Job) -> u32
     ensures { record { queue = q.new; job = removed.new; error = result } ≡ taken q.old }
 {
     let taken = queue::take(*q);
@@ -53,13 +51,7 @@ pub extern "C" fn trpc_queue_take(q: &mut Queue, removed: &mut Job) -> u32
 }
 
 // Removes the job of a pair.
-#[unsafe(no_mangle)]
-pub extern "C" fn trpc_queue_cancel(
-    q: &mut Queue,
-    connection: u32,
-    request: u32,
-    removed: &mut Job,
-) -> u32
+pub fn trpc_queue_cancel(q: &mut Queue, connection: u32, request: u32, removed: &mut Job) -> u32
     ensures { record { queue = q.new; job = removed.new; error = result }
         ≡ cancelled q.old connection request }
 {

@@ -3,7 +3,7 @@
 -- Promised, of any two calls under one ceiling, whatever it is, that gave what their contracts ensure:
 -- `c_only_the_version`: of two frames of one length that agree on their first 14 bytes and on all bytes after the 16th, read as one kind
 -- with the same row numbers lent, a reader returns the same number, leaves the same row numbers, and gives the same first 24 numbers of the
--- record. The 25th is the version (`Read-of`).
+-- record. The 25th is the version (`CReadOf`).
 -- `c_byte_16_ignored`: if they agree on byte 15, too, all that C has after the two calls is the same.
 -- `c_last_two_ignored`: of two headers of one length that agree on their first 14 bytes `trpc_header_check` returns the same number.
 -- `c_byte_16_unparsed`: if they agree on byte 15, too, `trpc_header_parse` gives the same of both.

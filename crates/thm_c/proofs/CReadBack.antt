@@ -14,7 +14,6 @@
 -- a reader that refuses a frame of just the ceiling, which is written.
 use Prim.Native.Nat.{ℕ, zero, suc, ◌%◌, ◌<◌, ◌≤◌, ◌^◌}
 use mathlib.Core.Path.{◌≡◌, refl, ap, sym, subst, ◌∙◌}
-use mathlib.Core.Bool.{Bool, cond}
 use mathlib.Core.List.{List, [], ◌∷◌}
 use native.Mathlib.Omega.{arith}
 use borrow.Author.Tests.{eqb-false}
@@ -48,7 +47,7 @@ use Rattle.thm_round_trip.proofs.RoundTrip.{round_trip, round_trip_larger}
 use Rattle.thm_round_trip.proofs.WithoutTwenty.{message_fits}
 use Rattle.thm_round_trip.specs.LastTwo.{LastTwo}
 use Rattle.thm_round_trip.proofs.LastTwoWritten.{last_two_written}
-use Rattle.thm_c.specs.Readings.{CRead, CReads, CReading, whole_of}
+use Rattle.thm_c.specs.Readings.{CRead, CReads}
 use Rattle.thm_c.specs.RoundTrip.{CWritten, CWrites, Words, CReadsBack}
 use Rattle.laws.proofs.Booleans.{choose}
 use Rattle.thm_c.proofs.CReading.{header_part, body_part, attachment_part}

@@ -31,10 +31,10 @@ use Rattle.message.specs.declared.Answer.TheVariants as answers
 use Rattle.message.specs.declared.Located.{Located}
 use Rattle.message.proofs.SpansStand.{spans_stand}
 use Rattle.bekurapi.specs.Answers.{answer_error}
-use Rattle.bekurapi.specs.Numbers.{answer_id, answer_rows, answer_slots, numbers_of, record_from}
+use Rattle.bekurapi.specs.Numbers.{numbers_of, record_from}
 use Rattle.thm_c.proofs.NumbersBack.{reading_back, version_read}
 use Rattle.message.specs.Meaning.{Bytes, bytes_from, all_of}
-use Rattle.thm_c.specs.Readings.{CRead, CReads, part_at, CReading, said_by, whole_of, CReadOf}
+use Rattle.thm_c.specs.Readings.{CRead, CReads, part_at, CReading, CReadOf}
 use Rattle.laws.proofs.Booleans.{choose}
 
 -- ---- a refusal has a number that is not 0, and no parts

@@ -3,10 +3,10 @@
 -- Promised, of any call of a reader, for any ceiling, kind, frame and row numbers: if it gave what its contract ensures, then each start
 -- and length among its numbers, of header, body, attachment and byte fields, and each key and value of the rows that it counts lies within
 -- the frame, and an empty one is 0, 0. It holds whatever the call returned: after a refusal all of them are 0, 0.
--- Not promised: which bytes are there (`Read-of` says it), and anything of the row numbers past the rows that are counted.
+-- Not promised: which bytes are there (`CReadOf` says it), and anything of the row numbers past the rows that are counted.
 -- Ruled out: a length that passes the end of the frame, and an end given for a length.
 use Prim.Native.Nat.{ℕ, ◌%◌}
-use mathlib.Core.Path.{◌≡◌, refl, ap, sym, subst, ◌∙◌}
+use mathlib.Core.Path.{◌≡◌, refl, sym, subst}
 use mathlib.Core.List.{List, [], ◌∷◌, ◌++◌}
 use lib.ListN.{length, take, get_or}
 use Rattle.decoder.specs.Rows.{rows_in}

@@ -1,6 +1,6 @@
 -- A contract that gives each number gives all that C has after the call.
 use Prim.Native.Nat.{ℕ}
-use mathlib.Core.Path.{◌≡◌, ap, sym, ◌∙◌}
+use mathlib.Core.Path.{◌≡◌, ap}
 use mathlib.Core.List.{List}
 use Rattle.fixed_header.specs.Header.{parsed}
 use Rattle.deframer.specs.Deframe.{ended}

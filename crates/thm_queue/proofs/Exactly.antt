@@ -10,7 +10,6 @@
 -- Ruled out: a call that returns 0 for a queue that is not valid, and one that changes the queue and returns a number.
 use Prim.Native.Nat.{ℕ}
 use Rattle.queue.specs.declared.Added.{Added}
-use Rattle.queue.specs.declared.Job.{Job}
 use Rattle.queue.specs.declared.Queue.{Queue}
 use Rattle.queue.specs.declared.Removed.{Removed}
 use Rattle.queue.specs.Calls.{new_job}

@@ -8,7 +8,7 @@
 -- it refuses.
 -- Assumes nothing.
 use Prim.Native.Nat.{ℕ, ◌+◌, ◌*◌, ◌^◌, ◌<◌}
-use mathlib.Core.Path.{◌≡◌, refl, sym, ap, ap₂, subst, ◌∙◌}
+use mathlib.Core.Path.{◌≡◌, refl, sym, ap₂, subst, ◌∙◌}
 use mathlib.Core.Bool.{Bool, true, false, cond}
 use mathlib.Core.List.{List, ◌++◌}
 use lib.ListN.{length, take, drop}
@@ -25,7 +25,6 @@ use Rattle.copying.specs.Stored.{fits, stored}
 use Rattle.wire_write.specs.Writing.{put_varint, put_tag, put_bytes, good_tag, first_ground, answer}
 use Rattle.wire_write.specs.Writing.{written_at, tag_stored, tag_written}
 use Rattle.wire_write.specs.declared.Written.{Written}
-use Rattle.wire_write.specs.declared.Written.TheVariants as writes
 use Rattle.wire_write.specs.contracts.write_varint as write_varint
 use Rattle.wire_write.specs.contracts.write_tag as write_tag
 use Rattle.wire_write.specs.contracts.write_raw as write_raw

@@ -9,7 +9,7 @@
 use Prim.Native.Nat.{ℕ, ◌-◌, ◌≤◌}
 use mathlib.Core.Path.{◌≡◌, refl, sym, subst}
 use mathlib.Core.Logic.{◌⊎◌, inl, inr, ⊎_elim}
-use mathlib.Core.Bool.{Bool, true, false, not}
+use mathlib.Core.Bool.{Bool, true, false}
 use mathlib.Core.List.{List}
 use native.Mathlib.Omega.{arith}
 use lib.Dec.{eqb}
@@ -18,7 +18,7 @@ use Rattle.fixed_header.specs.Header.{magic_ok, data_type_ok, stream_type_ok, to
 use Rattle.fixed_header.specs.Header.{total_of, header_size_of, fault_of, header_error}
 use Rattle.fixed_header.proofs.Ceilings.{ceiling_tested}
 use Rattle.refusals.specs.Grounds.{Exactly}
-use Rattle.refusals.proofs.Tests.{Told, Finds, Tests, each, either_found, both_pass, unlike, reworded, equal, up_to, at_most}
+use Rattle.refusals.proofs.Tests.{Told, Finds, each, either_found, unlike, reworded, equal, up_to}
 use Rattle.refusals.proofs.Tests.{found_by_choice}
 use Rattle.refusals.proofs.Order.{Outcome, Numbered, end, unless, exactly, first_says}
 use Rattle.thm_refusals.specs.Header.{byte, Unary, faults, header_grounds, header_check}

@@ -1,5 +1,5 @@
 -- The premise of the round trip: numbers of 32 bits
-use Rattle.std.specs.Prelude.{ℕ, ◌<◌, ◌^◌, List, [], ◌∷◌}
+use Rattle.std.specs.Prelude.{◌<◌, ◌^◌, List, [], ◌∷◌}
 use Rattle.std.specs.Int.Signed.{mag}
 use Rattle.message.specs.Meaning.{Said, unsigned, signed, present, text}
 

@@ -11,7 +11,7 @@
 -- under two ceilings.
 -- Ruled out: a deframer that works on its first call and then only pretends (`calls`), and one that makes up its count of bytes taken
 -- (`calls`, `tiled`); the must-fail edits of `deframer` try both.
-use Prim.Native.Nat.{ℕ, ◌+◌, ◌≤◌, ◌<◌}
+use Prim.Native.Nat.{ℕ, ◌≤◌, ◌<◌}
 use mathlib.Core.Path.{◌≡◌, refl, sym, ap, subst, ◌∙◌}
 use mathlib.Core.Logic.{◌⊎◌, inl, inr}
 use mathlib.Core.List.{List, [], ◌∷◌, ◌++◌, append_assoc, append-nil}

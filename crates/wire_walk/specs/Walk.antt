@@ -12,7 +12,7 @@ onward go zero s = []
 onward go (suc used) s = go (drop (suc used) s)
 
 -- at most `steps` fields, and what comes after them: with no steps left that is the end or a refusal, since each field took a byte
--- (`Walk-more`, `walk_last`, proofs/WalkLaws)
+-- (`walk_more`, `walk_last`, proofs/WalkLaws)
 unfoldable pub walk_in : ℕ → List ℕ → List FieldResult
 walk_in zero s = next_field s ∷ []
 walk_in (suc steps) s = next_field s ∷ onward (walk_in steps) (used_by (next_field s)) s

@@ -1,7 +1,7 @@
 -- What the writer's private functions promise each other. No sentence of the paper is here.
-use Rattle.std.specs.Prelude.{ℕ, ◌+◌, ◌*◌, ◌≤◌, ◌<◌, ◌≡◌, List, [], ◌∷◌, ◌++◌, Bool, true, not, cond, ◌&&◌, eqb, ltb, length, get_or}
+use Rattle.std.specs.Prelude.{ℕ, ◌+◌, ◌*◌, ◌≤◌, ◌≡◌, List, [], ◌∷◌, ◌++◌, Bool, true, not, cond, ◌&&◌, eqb, ltb, length, get_or}
 use Rattle.std.proofs.lemmas.List.Edits.{sets}
-use Rattle.fixed_header.specs.Header.{max_frame, ceiling_ok}
+use Rattle.fixed_header.specs.Header.{ceiling_ok}
 use Rattle.fixed_header.specs.Put.{fixed_header}
 use Rattle.wire_write.specs.Writing.{put_varint, put_bytes}
 use Rattle.schema.specs.Schema.{Integer, uint32, int32, Schema, done, number, bytes, map, message, width, request_meta, response_meta}

@@ -1,6 +1,5 @@
 -- The end of the stream, as numbers.
 use mathlib.Core.Path.{ap, ◌∙◌}
-use borrow.Author.Rules.{rules}
 use Rattle.bekurapi.specs.Answers.{end_error, end_short}
 use Rattle.bekurapi.proofs.trpc_finish.Goals as goal
 

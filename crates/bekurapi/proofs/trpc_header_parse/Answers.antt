@@ -1,6 +1,5 @@
 -- What a header says, as numbers.
 use mathlib.Core.Path.{ap, ◌∙◌}
-use borrow.Author.Rules.{rules}
 use Rattle.fixed_header.specs.declared.FixedHeader.{FixedHeader}
 use Rattle.bekurapi.specs.Answers.{type_number, parsed_error, header_given}
 use Rattle.bekurapi.proofs.trpc_header_parse.Goals as goal

@@ -1,6 +1,5 @@
 -- Case by case, the definition.
 use mathlib.Core.Path.{refl}
-use borrow.Author.Rules.{rules}
 use Rattle.writer.specs.Writing.{error_of}
 use Rattle.bekurapi.proofs.answers.encoded_error.Goals as goal
 

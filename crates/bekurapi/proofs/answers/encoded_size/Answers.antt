@@ -1,6 +1,5 @@
 -- Case by case, the definition.
 use mathlib.Core.Path.{refl}
-use borrow.Author.Rules.{rules}
 use Rattle.writer.specs.Writing.{count_of}
 use Rattle.bekurapi.proofs.answers.encoded_size.Goals as goal
 

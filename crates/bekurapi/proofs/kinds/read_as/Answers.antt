@@ -1,6 +1,5 @@
 -- What the reader gives, as numbers.
 use mathlib.Core.Path.{ap, ◌∙◌}
-use borrow.Author.Rules.{rules}
 use Rattle.message.specs.declared.Located.{Located}
 use Rattle.bekurapi.specs.Answers.{answer_error}
 use Rattle.bekurapi.specs.Numbers.{numbers_of}

@@ -1,11 +1,11 @@
 -- The fields up to the i-th are copied.
-use Prim.Native.Nat.{ℕ, ◌+◌, ◌-◌, ◌≤◌}
+use Prim.Native.Nat.{ℕ, ◌+◌}
 use mathlib.Core.Path.{◌≡◌, refl, sym, ap, ◌∙◌}
 use mathlib.Core.List.{List}
 use native.Mathlib.Omega.{arith}
 use native.Mathlib.Nat.{zero-add}
 use borrow.Author.Rules.{rules}
-use lib.ListN.{length, drop, get_or, set, replicate}
+use lib.ListN.{drop, get_or, set, replicate}
 use lib.Seq.{paste, get_or-drop}
 use Rattle.bekurapi.proofs.Copies.{copied, fields_length, fields_all}
 use Rattle.bekurapi.proofs.numbers.fields_of.Goals as goal

@@ -1,6 +1,5 @@
 -- Each number where the definition has it.
 use mathlib.Core.Path.{◌∙◌}
-use borrow.Author.Rules.{rules}
 use Rattle.bekurapi.proofs.NumberLaws.{to_numbers}
 use Rattle.bekurapi.proofs.numbers.numbers_of.Goals as goal
 

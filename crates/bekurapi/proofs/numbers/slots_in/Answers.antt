@@ -1,6 +1,5 @@
 -- Case by case, the definition.
 use mathlib.Core.Path.{refl}
-use borrow.Author.Rules.{rules}
 use Rattle.bekurapi.proofs.numbers.slots_in.Goals as goal
 
 pub returns-in-Read : goal.returns-in-Read

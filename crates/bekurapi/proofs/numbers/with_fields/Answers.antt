@@ -1,10 +1,10 @@
 -- The fields up to the i-th are copied.
-use Prim.Native.Nat.{ℕ, ◌+◌, ◌-◌, ◌≤◌}
+use Prim.Native.Nat.{ℕ, ◌+◌}
 use mathlib.Core.Path.{◌≡◌, refl, ap, ◌∙◌}
 use mathlib.Core.List.{List}
 use native.Mathlib.Omega.{arith}
 use borrow.Author.Rules.{rules}
-use lib.ListN.{length, get_or, set}
+use lib.ListN.{get_or, set}
 use lib.Seq.{paste, paste-zero}
 use Rattle.bekurapi.proofs.Copies.{copied, fields_copied}
 use Rattle.bekurapi.proofs.numbers.with_fields.Goals as goal

@@ -1,12 +1,8 @@
 -- The fields up to the i-th are copied.
-use Prim.Native.Nat.{ℕ, ◌+◌, ◌-◌, ◌≤◌}
-use mathlib.Core.Path.{◌≡◌, refl, ap, ◌∙◌}
-use mathlib.Core.List.{List}
-use native.Mathlib.Omega.{arith}
-use borrow.Author.Rules.{rules}
-use lib.ListN.{length, get_or, set}
-use lib.Seq.{paste, paste-zero}
-use Rattle.bekurapi.proofs.Copies.{copied, fields_copied}
+use Prim.Native.Nat.{◌-◌, ◌≤◌}
+use mathlib.Core.Path.{◌≡◌}
+use lib.ListN.{length}
+use lib.Seq.{paste}
 use Rattle.bekurapi.proofs.numbers.with_fields.Given as goal
 
 abbrev pub invariant-loop-i : goal.invariant-loop-i

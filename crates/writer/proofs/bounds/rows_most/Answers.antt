@@ -1,10 +1,5 @@
 -- What is done and the rows that are left have the bound of all rows; a row has at most `most_row`.
-use Prim.Native.Nat.{◌+◌, ◌*◌, ◌-◌, ◌≤◌}
-use mathlib.Core.Path.{◌≡◌}
-use lib.ListN.{drop}
 use native.Mathlib.Omega.{arith}
-use Rattle.decoder.specs.Rows.{rows_in}
-use Rattle.writer.specs.Straight.{most_row, rows_sum, row_most}
 use Rattle.writer.proofs.Measures.{sum_more, sum_all}
 use Rattle.writer.proofs.bounds.rows_most.Goals as goal
 

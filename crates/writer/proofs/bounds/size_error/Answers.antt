@@ -1,5 +1,5 @@
 -- In the order of the definition. A frame with a body over the ceiling is over it.
-use Prim.Native.Nat.{◌+◌, ◌<◌, ◌≤◌}
+use Prim.Native.Nat.{◌+◌}
 use native.Mathlib.Omega.{arith}
 use borrow.Author.Tests.{le-leb, lt-leb}
 use Rattle.writer.specs.Writing.{size_error}

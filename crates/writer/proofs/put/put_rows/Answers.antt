@@ -1,13 +1,10 @@
 -- The rows that are left, stored from the place reached, give what all of them give.
-use Prim.Native.Nat.{◌-◌, ◌/◌, ◌≤◌}
 use mathlib.Core.Path.{sym, subst}
-use lib.ListN.{length, drop}
+use lib.ListN.{length}
 use native.Mathlib.Omega.{arith}
-use Rattle.decoder.specs.Rows.{rows_in}
-use Rattle.writer.specs.Encoding.{put_rows}
 use Rattle.writer.specs.Straight.{RowIn}
 use Rattle.writer_checks.proofs.GroundLaws.{row_in}
-use Rattle.writer.proofs.Stores.{Left, starts}
+use Rattle.writer.proofs.Stores.{starts}
 use Rattle.writer.proofs.RowLoop.{row_fits, put_row, put_rows_all}
 use Rattle.writer.proofs.put.put_rows.Goals as goal
 

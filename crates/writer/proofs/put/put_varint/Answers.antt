@@ -2,7 +2,7 @@
 use lib.ListN.{length-set}
 use lib.Dec.{lit<}
 use native.Mathlib.Omega.{arith}
-use Rattle.wire_write.proofs.VarintLoop.{group_fits, Putting, start, in_out, again, done}
+use Rattle.wire_write.proofs.VarintLoop.{group_fits, start, in_out, again, done}
 use Rattle.writer.proofs.put.put_varint.Goals as goal
 
 pub returns : goal.returns

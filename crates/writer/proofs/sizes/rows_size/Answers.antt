@@ -1,10 +1,5 @@
 -- What is done and the rows that are left take what all rows take; a row takes at most `most_row`.
-use Prim.Native.Nat.{◌+◌, ◌*◌, ◌-◌, ◌≤◌}
-use mathlib.Core.Path.{◌≡◌}
-use lib.ListN.{drop}
 use native.Mathlib.Omega.{arith}
-use Rattle.decoder.specs.Rows.{rows_in}
-use Rattle.writer.specs.Straight.{most_row, rows_sum, row_size}
 use Rattle.writer.proofs.Measures.{sum_more, sum_all}
 use Rattle.writer.proofs.sizes.rows_size.Goals as goal
 
