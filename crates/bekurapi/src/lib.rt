@@ -24,8 +24,7 @@ use schema::Kind;
 
 // The error code of a fixed header under a connection's ceiling: 0 where it is good, 41 for a ceiling outside 16 to 65,536, 9 where it is
 // not 16 bytes, else 3 to 7.
-#[unsafe(no_mangle)]
-pub extern "C" fn trpc_header_check(bytes: &[u8], ceiling: u32) -> u32
+pub fn trpc_header_check(bytes: &[u8], ceiling: u32) -> u32
     ensures { result ≡ header_error ceiling bytes.now }
 {
     fixed_header::check_header(bytes, ceiling)
@@ -33,8 +32,7 @@ pub extern "C" fn trpc_header_check(bytes: &[u8], ceiling: u32) -> u32
 
 // What a fixed header says. Answers its error code; where it is 0, `frame_type` is the stream type, or 0 for unary. All are 0
 // after a refusal.
-#[unsafe(no_mangle)]
-pub extern "C" fn trpc_header_parse(
+pub fn trpc_header_parse(
     bytes: &[u8],
     ceiling: u32,
     frame_type: &mut u32,
@@ -60,8 +58,7 @@ pub extern "C" fn trpc_header_parse(
 
 // One call of the deframer, whose state is `held` and `error`, both 0 when fresh. Answers the error code; where it is 0, `size`
 // is that of the whole frame at the start of the buffer, or 0 where more is needed.
-#[unsafe(no_mangle)]
-pub extern "C" fn trpc_deframe(
+pub fn trpc_deframe(
     held: &mut usize,
     error: &mut u32,
     buffer: &mut [u8],
@@ -88,8 +85,7 @@ pub extern "C" fn trpc_deframe(
 }
 
 // The end of the stream. Answers the error code; where it is 0, `short_by` is how many bytes of an unfinished frame are held.
-#[unsafe(no_mangle)]
-pub extern "C" fn trpc_finish(
+pub fn trpc_finish(
     held: usize,
     error: u32,
     buffer: &[u8],
@@ -107,8 +103,7 @@ pub extern "C" fn trpc_finish(
 // ---- The six readers: each reads a frame as its kind. It answers the error code, and leaves the row numbers and the 25 numbers of the
 // record and its frame's parts.
 
-#[unsafe(no_mangle)]
-pub extern "C" fn trpc_read_request(
+pub fn trpc_read_request(
     frame: &[u8],
     ceiling: u32,
     rows: &mut [u32],
@@ -119,8 +114,7 @@ pub extern "C" fn trpc_read_request(
     read_as(Kind::Request, frame, ceiling, rows, record)
 }
 
-#[unsafe(no_mangle)]
-pub extern "C" fn trpc_read_response(
+pub fn trpc_read_response(
     frame: &[u8],
     ceiling: u32,
     rows: &mut [u32],
@@ -131,32 +125,19 @@ pub extern "C" fn trpc_read_response(
     read_as(Kind::Response, frame, ceiling, rows, record)
 }
 
-#[unsafe(no_mangle)]
-pub extern "C" fn trpc_read_init(
-    frame: &[u8],
-    ceiling: u32,
-    rows: &mut [u32],
-    record: &mut [u32; 25],
-) -> u32
+pub fn trpc_read_init(frame: &[u8], ceiling: u32, rows: &mut [u32], record: &mut [u32; 25]) -> u32
     ensures { ReadAs ceiling kinds.Init frame.now rows.old result rows.new «record».new }
 {
     read_as(Kind::Init, frame, ceiling, rows, record)
 }
 
-#[unsafe(no_mangle)]
-pub extern "C" fn trpc_read_data(
-    frame: &[u8],
-    ceiling: u32,
-    rows: &mut [u32],
-    record: &mut [u32; 25],
-) -> u32
+pub fn trpc_read_data(frame: &[u8], ceiling: u32, rows: &mut [u32], record: &mut [u32; 25]) -> u32
     ensures { ReadAs ceiling kinds.Data frame.now rows.old result rows.new «record».new }
 {
     read_as(Kind::Data, frame, ceiling, rows, record)
 }
 
-#[unsafe(no_mangle)]
-pub extern "C" fn trpc_read_feedback(
+pub fn trpc_read_feedback(
     frame: &[u8],
     ceiling: u32,
     rows: &mut [u32],
@@ -167,13 +148,7 @@ pub extern "C" fn trpc_read_feedback(
     read_as(Kind::Feedback, frame, ceiling, rows, record)
 }
 
-#[unsafe(no_mangle)]
-pub extern "C" fn trpc_read_close(
-    frame: &[u8],
-    ceiling: u32,
-    rows: &mut [u32],
-    record: &mut [u32; 25],
-) -> u32
+pub fn trpc_read_close(frame: &[u8], ceiling: u32, rows: &mut [u32], record: &mut [u32; 25]) -> u32
     ensures { ReadAs ceiling kinds.Close frame.now rows.old result rows.new «record».new }
 {
     read_as(Kind::Close, frame, ceiling, rows, record)
@@ -182,8 +157,7 @@ pub extern "C" fn trpc_read_close(
 // ---- The six writers: each writes the frame of a record of its kind, given as 25 numbers, to the start of `out`. It answers the error
 // code; `size` is the frame's, 0 after a refusal.
 
-#[unsafe(no_mangle)]
-pub extern "C" fn trpc_write_request(
+pub fn trpc_write_request(
     record: &[u32; 25],
     source: &[u8],
     rows: &[u32],
@@ -207,8 +181,7 @@ pub extern "C" fn trpc_write_request(
     )
 }
 
-#[unsafe(no_mangle)]
-pub extern "C" fn trpc_write_response(
+pub fn trpc_write_response(
     record: &[u32; 25],
     source: &[u8],
     rows: &[u32],
@@ -232,8 +205,7 @@ pub extern "C" fn trpc_write_response(
     )
 }
 
-#[unsafe(no_mangle)]
-pub extern "C" fn trpc_write_init(
+pub fn trpc_write_init(
     record: &[u32; 25],
     source: &[u8],
     rows: &[u32],
@@ -248,8 +220,7 @@ pub extern "C" fn trpc_write_init(
     write_as(Kind::Init, record, source, rows, body, ceiling, out, size)
 }
 
-#[unsafe(no_mangle)]
-pub extern "C" fn trpc_write_data(
+pub fn trpc_write_data(
     record: &[u32; 25],
     source: &[u8],
     rows: &[u32],
@@ -264,8 +235,7 @@ pub extern "C" fn trpc_write_data(
     write_as(Kind::Data, record, source, rows, body, ceiling, out, size)
 }
 
-#[unsafe(no_mangle)]
-pub extern "C" fn trpc_write_feedback(
+pub fn trpc_write_feedback(
     record: &[u32; 25],
     source: &[u8],
     rows: &[u32],
@@ -289,8 +259,7 @@ pub extern "C" fn trpc_write_feedback(
     )
 }
 
-#[unsafe(no_mangle)]
-pub extern "C" fn trpc_write_close(
+pub fn trpc_write_close(
     record: &[u32; 25],
     source: &[u8],
     rows: &[u32],
