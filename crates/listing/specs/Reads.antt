@@ -1,4 +1,4 @@
--- What the reads of standard input come to, one after another. No contract can say which bytes a call of C reads, or that it writes
+-- What the reads of standard input come to, one after another. No contract can say which bytes a read brings, or that a write writes
 -- what it is given: here a read has put some bytes at the start of the piece.
 use Rattle.std.specs.Prelude.{◌≡◌, ℕ, suc, ◌-◌, ◌^◌, true, false, ◌⊎◌, List, take}
 use Rattle.listing.specs.Steps.{start, ListsEnd, ListsPiece}
