@@ -8,27 +8,27 @@ use Rattle.message.specs.declared.Answer.TheVariants.{Read, Refused}
 use Rattle.queue.specs.declared.Job.{Job}
 
 -- a fixed header: magic, data and stream type, the four bytes of the total, the second byte of the header size
-abbrev pub fixed_header : (first second data_type_of stream_type_of : ℕ) → (total : List ℕ) → (header_size_of : ℕ) → List ℕ
-fixed_header first second data_type_of stream_type_of total header_size_of =
-    first ∷ second ∷ data_type_of ∷ stream_type_of ∷ (total ++ (0 ∷ header_size_of ∷ 0 ∷ 0 ∷ 0 ∷ 7 ∷ 0 ∷ 0 ∷ []))
+abbrev pub fixed_header : (first second data_type stream_type : ℕ) → (total : List ℕ) → (header_size : ℕ) → List ℕ
+fixed_header first second data_type stream_type total header_size =
+    first ∷ second ∷ data_type ∷ stream_type ∷ (total ++ (0 ∷ header_size ∷ 0 ∷ 0 ∷ 0 ∷ 7 ∷ 0 ∷ 0 ∷ []))
 
 -- a total below 256
 abbrev pub small : ℕ → List ℕ
 small total = 0 ∷ 0 ∷ 0 ∷ total ∷ []
 
-abbrev pub unary : (total : List ℕ) → (header_size_of : ℕ) → List ℕ
-unary total header_size_of = fixed_header 0x09 0x30 0 0 total header_size_of
+abbrev pub unary : (total : List ℕ) → (header_size : ℕ) → List ℕ
+unary total header_size = fixed_header 0x09 0x30 0 0 total header_size
 
 -- a stream frame of 16 bytes
-abbrev pub streamed : (stream_type_of : ℕ) → List ℕ
-streamed stream_type_of = fixed_header 0x09 0x30 1 stream_type_of (small 16) 0
+abbrev pub streamed : (stream_type : ℕ) → List ℕ
+streamed stream_type = fixed_header 0x09 0x30 1 stream_type (small 16) 0
 
 -- a frame of a header message and a body; one of a stream message
 abbrev pub unary_frame : (header body : List ℕ) → List ℕ
 unary_frame header body = unary (small (16 + length header + length body)) (length header) ++ header ++ body
 
-abbrev pub stream_frame : (stream_type_of : ℕ) → (message : List ℕ) → List ℕ
-stream_frame stream_type_of message = fixed_header 0x09 0x30 1 stream_type_of (small (16 + length message)) 0 ++ message
+abbrev pub stream_frame : (stream_type : ℕ) → (message : List ℕ) → List ℕ
+stream_frame stream_type message = fixed_header 0x09 0x30 1 stream_type (small (16 + length message)) 0 ++ message
 
 -- ---- what frames read as
 abbrev pub none : Span

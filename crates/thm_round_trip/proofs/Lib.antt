@@ -1,6 +1,7 @@
 -- The theorems of demand 2: what is written reads back, when nothing is written, and that what is read lies within the frame
 pub mod RoundTrip
 pub mod Exactly
+pub mod EveryCeiling
 pub mod WithoutTwenty
 pub mod LastTwoWritten
 pub mod ReadWithin

@@ -45,12 +45,10 @@ use Rattle.thm_round_trip.proofs.Accepted.{framed}
 use Rattle.thm_round_trip.proofs.CalledBack.{all_written}
 use Rattle.thm_round_trip.proofs.Exactly.{content_outcome}
 use Rattle.thm_round_trip.proofs.FrameBack.{frame_length}
+use Rattle.thm_round_trip.proofs.EveryCeiling.{frame_size}
+pub use Rattle.thm_round_trip.proofs.EveryCeiling.{max_header, over_every_ceiling}
 
 -- ---- document 01's order, with 20: only here
--- "20 | writer | header message over 65,535"
-abbrev pub max_header : ℕ
-max_header = 65535
-
 -- "Writer 18's first three grounds, 17, 18's others, 15, 19, 20, 27." P11: "41 ceiling outside the range, before all others"
 abbrev pub grounds_with_twenty : (c : ℕ) → Record → (source numbers body : List ℕ) → (room : ℕ) → List Ground
 grounds_with_twenty c r source numbers body room =
@@ -94,13 +92,6 @@ module _ (r : Record) (source numbers body : List ℕ) where
   abbrev frame : List ℕ
   frame = frame_of r source numbers body
 
-  frame_size : length frame ≡ 16 + length message + length body
-  unfolding frame_of
-  frame_size = frame_length (kind_of r) (record_id r) (record_version r) message body
-
-  pub over_every_ceiling : (ceiling : ℕ) → ceiling ≤ max_frame → max_header < length message → ceiling < length frame
-  over_every_ceiling ceiling within over = omega (arith, frame_size)
-
   -- where 19's ground does not hold, 20's does not, under any such ceiling
   pub no_twenty : (ceiling later : ℕ) → ceiling ≤ max_frame
       → chain.unless (leb (length frame) ceiling) 19 (chain.unless (leb (length message) max_header) 20 later)
@@ -113,7 +104,7 @@ module _ (r : Record) (source numbers body : List ℕ) where
       by true e true f = refl
       by true e false f =
           let under = leb-true (length frame) ceiling e in
-          absurd (omega (arith, over_every_ceiling ceiling within (leb-false (length message) max_header f)))
+          absurd (omega (arith, over_every_ceiling r source numbers body ceiling within (leb-false (length message) max_header f)))
 
 -- ---- the writer with 20 and the one without
 -- what comes after a test counts only where it passes

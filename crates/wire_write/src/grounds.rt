@@ -28,6 +28,7 @@ pub(crate) fn has_room_for_both(out: &[u8], at: usize, head: usize, size: usize)
 }
 
 // The refusal number, 0 for none.
+#[tactic(auto, unfolding(crate::specs::Writing::first_ground))]
 pub(crate) fn first_ground(good: bool, room: bool) -> u32
     ensures { result ≡ first_ground good room }
 {

@@ -13,8 +13,7 @@ loop-i-preserved c =
 
 pub returns-then-b-gt1 : goal.returns-then-b-gt1
 returns-then-b-gt1 c =
-    too_big _ _ _ _ _ _ _ c.loop-i.invariant _ c.wide-b.ensures.0 c.if-i-stop.false c.if-shift-eq63.true
-    c.if-b-gt1.true
+    too_big _ _ _ _ _ _ _ c.loop-i.invariant _ c.wide-b.ensures.0 c.if-i-stop.false (omega arith) c.if-b-gt1.true
 
 pub returns-then-b-lt128 : goal.returns-then-b-lt128
 returns-then-b-lt128 c =

@@ -1,5 +1,6 @@
 -- One copy of what the piece has of a frame, or the header first.
 use native.Mathlib.Omega.{arith}
+use mathlib.Core.Path.{◌≡◌}
 use lib.ListN.{take}
 use Rattle.fixed_header.proofs.Codes.{good_total}
 use Rattle.deframer.proofs.Advance.{content_moved}
@@ -17,4 +18,5 @@ returns-then-total-ne0 c =
     let m =
     content_moved c.args.ceiling c.frame_size-total.result _ _ c.args.buffer.now c.args.piece.now 0
     begun.0 begun.1 begun.2 (c.content.ensures.value, c.content.ensures.buffer_after) in
-    rw c.if-held-eq0.true (record { value = m.0; buffer_after = m.1 })
+    let none : c.args.held ≡ 0 = omega arith in
+    rw none (record { value = m.0; buffer_after = m.1 })
