@@ -126,6 +126,8 @@ def write(file, new):
 
 
 def main():
+    if (ROOT / "docs" / "PORT.md").exists() and "--check" not in sys.argv[1:]:
+        sys.exit("respell: this tree has today's spelling")
     found, library, all_names = own_names()
     table = {name: snake(name) for name in found}
     capital = {new for old, new in table.items() if "-" not in old}
