@@ -1,7 +1,7 @@
 // The three standard streams, and whether a read or a write has failed. A failure is said on standard error.
 use std::alloc::{AllocError, Global};
 use std::io;
-use std::io::{Stderr, Stdin, Stdout};
+use std::io::{ErrorKind, Stderr, Stdin, Stdout};
 
 #[derive(Drop)]
 pub(crate) struct Streams {
@@ -12,9 +12,13 @@ pub(crate) struct Streams {
     pub(crate) failed: bool,
 }
 
-// Says what failed, and why. Where there is no memory for the reason, it is left out.
+// Says what failed, and why. Where there is no memory for the reason, it is left out. Of an output that its reader closed nothing is
+// said.
 pub(crate) fn fail(streams: &mut Streams, what: &str, e: &io::Error) {
     streams.failed = true;
+    if matches!(e.kind(), ErrorKind::BrokenPipe) {
+        return;
+    }
     let stderr = streams.stderr;
     let _ = match reason(streams.alloc, e) {
         Ok(why) => println!(stderr; "listing: {what}: {why}"),
