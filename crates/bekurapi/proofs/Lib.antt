@@ -1,5 +1,4 @@
 -- Demand 1, of every public entry
 pub mod AsksNothing
 -- For the proofs of this crate's functions
-mod Copies
 mod NumberLaws

@@ -1,20 +1,17 @@
 -- The answers about a fixed header, of the deframer, of the end of a stream and of the reader as numbers: "For an answer that is an enum, a
 -- definition gives this paper's number and values for each of its cases."
-use Rattle.std.specs.Prelude.{ℕ, ◌≡◌, List}
+use Rattle.std.specs.Prelude.{ℕ, ◌≡◌, List, Result, Ok, Err}
 use Rattle.fixed_header.specs.Header.{parsed}
 use Rattle.deframer.specs.Deframe.{Out, deframed}
 use Rattle.fixed_header.specs.declared.FrameType.{FrameType}
 use Rattle.fixed_header.specs.declared.FrameType.TheVariants as types
 use Rattle.fixed_header.specs.declared.FixedHeader.{FixedHeader}
-use Rattle.fixed_header.specs.declared.Parsed.{Parsed}
-use Rattle.fixed_header.specs.declared.Parsed.TheVariants as headers
 use Rattle.deframer.specs.declared.Deframer.{Deframer}
-use Rattle.deframer.specs.declared.Progress.{Progress}
-use Rattle.deframer.specs.declared.Progress.TheVariants.{Frame, NeedMore, Refused}
-use Rattle.deframer.specs.declared.End.{End}
-use Rattle.deframer.specs.declared.End.TheVariants as end
-use Rattle.message.specs.declared.Answer.{Answer}
-use Rattle.message.specs.declared.Answer.TheVariants as answers
+use Rattle.deframer.specs.Progress.{Progress}
+use Rattle.deframer.specs.Progress.{Frame, NeedMore, Refused}
+use Rattle.deframer.specs.End.{End}
+use Rattle.deframer.specs.End as end
+use Rattle.message.specs.Frames.{Answer}
 
 -- "data type | 0 unary, 1 stream"; "stream type | 1 Init, 2 Data, 3 Feedback, 4 Close": the stream type, and 0 for unary
 abbrev pub type_number : FrameType → ℕ
@@ -25,14 +22,14 @@ type_number types.Feedback = 3
 type_number types.Close = 4
 
 -- A header says type, sizes, id and version, or it is refused.
-abbrev pub parsed_error : Parsed → ℕ
-parsed_error (headers.Good h) = 0
-parsed_error (headers.Refused code) = code
+abbrev pub parsed_error : Result FixedHeader ℕ → ℕ
+parsed_error (Ok h) = 0
+parsed_error (Err code) = code
 
 -- what a good one says; of a refused one all is zero
-abbrev pub header_given : Parsed → FixedHeader
-header_given (headers.Good h) = h
-header_given (headers.Refused code) = record { frame_type = types.Unary; total = 0; header_size = 0; id = 0; version = 0 }
+abbrev pub header_given : Result FixedHeader ℕ → FixedHeader
+header_given (Ok h) = h
+header_given (Err code) = record { frame_type = types.Unary; total = 0; header_size = 0; id = 0; version = 0 }
 
 -- so a call of `trpc_header_parse` gave the number that is returned and the five that it hands out
 pub record ParsedAs (c : ℕ) (bytes : List ℕ) (code frame_type total header_size id version : ℕ) : Type 0 where
@@ -85,5 +82,5 @@ end_short (end.Refused code) = 0
 
 -- A reading is a record or the refusal.
 abbrev pub answer_error : Answer → ℕ
-answer_error (answers.Read r) = 0
-answer_error (answers.Refused code) = code
+answer_error (Ok r) = 0
+answer_error (Err code) = code

@@ -1,35 +1,34 @@
 -- A record as 25 numbers: id, row count, start and length of header, body and attachment, 16 for the fields of its kind, and the version
-use Rattle.std.specs.Prelude.{ℕ, ◌%◌, List, [], ◌∷◌, ◌++◌, take, drop, get_or, replicate}
+use Rattle.std.specs.Prelude.{ℕ, ◌%◌, List, [], ◌∷◌, ◌++◌, take, drop, get_or, replicate, Ok, Err}
 use Rattle.schema.specs.Schema.{slot_count}
 use Rattle.schema.specs.declared.Kind.{Kind}
 use Rattle.records.specs.declared.Record.{Record}
-use Rattle.message.specs.declared.Answer.{Answer}
-use Rattle.message.specs.declared.Answer.TheVariants as answers
-use Rattle.message.specs.declared.Located.{Located}
+use Rattle.message.specs.Frames.{Answer}
+use Rattle.message.specs.Spans.{Spans}
 use Rattle.records.specs.Records.{record_of}
 use Rattle.records.specs.Content.{record_id, record_version, row_count, slots_of}
 
 -- "A refused record .. is all zero."
 abbrev pub answer_id : Answer → ℕ
-answer_id (answers.Read r) = record_id r
-answer_id (answers.Refused code) = 0
+answer_id (Ok r) = record_id r
+answer_id (Err code) = 0
 
 abbrev pub answer_version : Answer → ℕ
-answer_version (answers.Read r) = record_version r
-answer_version (answers.Refused code) = 0
+answer_version (Ok r) = record_version r
+answer_version (Err code) = 0
 
 abbrev pub answer_rows : Answer → ℕ
-answer_rows (answers.Read r) = row_count r
-answer_rows (answers.Refused code) = 0
+answer_rows (Ok r) = row_count r
+answer_rows (Err code) = 0
 
 abbrev pub answer_slots : Answer → List ℕ
-answer_slots (answers.Read r) = slots_of r
-answer_slots (answers.Refused code) = replicate slot_count 0
+answer_slots (Ok r) = slots_of r
+answer_slots (Err code) = replicate slot_count 0
 
 -- "Beside its kind, a record is the id of bytes 11-14, that kind's own fields and present marks, and the row count; no more."; "Header,
 -- body and attachment are handed back as parts of the caller's frame". The fields are in the order of the kind's schema.
 -- Document 02, P2: "Every record carries the version"
-abbrev pub numbers_of : Located → List ℕ
+abbrev pub numbers_of : Spans → List ℕ
 numbers_of l =
     answer_id l.answer ∷ answer_rows l.answer
     ∷ l.header.start ∷ l.header.len

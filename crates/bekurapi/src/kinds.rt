@@ -1,7 +1,8 @@
 // The reader and the writer of any kind.
+// C's interface: twenty-five numbers for a record, and a number for each refusal.
 ghost use Rattle.bekurapi.specs.Kinds.{ReadAs, WrittenAs};
 
-use crate::answers::{answer_error, encoded_error, encoded_size};
+use crate::answers::{encoded_size, error_of};
 use crate::numbers::{fields_of, numbers_of, version_of};
 use message::read_spans;
 use schema::Kind;
@@ -18,8 +19,7 @@ pub(crate) fn read_as(
 {
     let reading = read_spans(kind, frame, ceiling, rows);
     *record = numbers_of(reading);
-    let answer = reading.answer;
-    answer_error(answer)
+    error_of(reading.answer)
 }
 
 pub(crate) fn write_as(
@@ -50,5 +50,5 @@ pub(crate) fn write_as(
         ceiling,
     );
     *size = encoded_size(encoded);
-    encoded_error(encoded)
+    error_of(encoded)
 }

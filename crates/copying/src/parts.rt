@@ -3,6 +3,7 @@
 ghost use Rattle.std.specs.Prelude.{◌≡◌, ◌++◌, ◌+◌, ◌≤◌, ◌<◌, length, drop};
 
 // Copies the source to the start of the output.
+// The two slices are no struct: each copy splits both, and would build it anew for each part.
 pub(crate) fn copy_part(source: &[u8], out: &mut [u8])
     requires { (length source.now ≤ 4096) × (length source.now ≤ length out.old) }
     ensures { out.new ≡ source.now ++ drop (length source.now) out.old }

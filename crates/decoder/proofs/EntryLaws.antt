@@ -1,11 +1,13 @@
 -- A map entry's key and value as the first slots of a state, which nothing else in an entry changes.
-use Prim.Native.Nat.{ℕ, ◌+◌, ◌-◌, ◌≤◌}
+use Prim.Native.Nat.{ℕ, ◌+◌, ◌-◌, ◌<◌, ◌≤◌}
 use mathlib.Core.Path.{◌≡◌, refl, subst, ◌∙◌}
+use mathlib.Core.Logic.{◌⊎◌, inl, inr}
 use mathlib.Core.Bool.{Bool, true, false, cond}
 use mathlib.Core.List.{List, [], ◌∷◌}
 use lib.ListN.{length, take, replicate}
 use lib.Dec.{eqb}
 use native.Mathlib.Omega.{arith}
+use Rattle.std.specs.Prelude.{Some, Ok}
 use Rattle.fixed_header.specs.Header.{max_frame}
 use Rattle.wire_read.specs.Part.{part}
 use Rattle.wire_read.specs.declared.Field.TheVariants as fields
@@ -17,7 +19,7 @@ use Rattle.decoder.specs.Fields.{State, Result, ok, blank, start_of, Reader, set
 use Rattle.schema.specs.Targets.{some_bytes, unknown, look}
 use Rattle.decoder.specs.DecoderState.{with_span}
 use Rattle.decoder.specs.declared.entry.MapEntry.{MapEntry}
-use Rattle.decoder.proofs.Walk.{Walk, walk_varint, bytes_bounds, bytes_taken_lem}
+use Rattle.decoder.proofs.Walk.{Walk, Passed, walk_passed, walk_varint, varint_bounds, bytes_bounds, bytes_taken_lem}
 
 abbrev pub entry_state : MapEntry → State
 entry_state e = record { slots = e.key ∷ e.key_size ∷ e.value ∷ e.value_size ∷ replicate 12 0; rows = []; entries = 0 }
@@ -59,24 +61,34 @@ pub entry_start : (frame : List ℕ) (at end : ℕ) → at ≤ end → end ≤ l
 entry_start frame at end h k l = record { walk = record { to = h; long = k; rest = refl }; small = l }
 
 module _ (frame : List ℕ) (at end i : ℕ) (e : MapEntry) (w : ReadingEntry frame at end i e)
-    (s : Step) (is-s : s ≡ step_at (take end frame) i) where
-  pub entry_varint : (n v next : ℕ) → s.field ≡ fields.Varint n v next → ReadingEntry frame at end s.at e
+    {s : Step} (is-s : Ok (Some s) ≡ step_at (take end frame) i) where
+  entry_varint : (n v next : ℕ) → s.field ≡ fields.Varint n v next → ReadingEntry frame at end s.at e
   entry_varint n v next q =
       record {
         walk = subst (Walk frame entry 0 (read_entry frame at end) end s.at) (entry_number n v (entry_state e))
-            (walk_varint frame entry 0 (read_entry frame at end) end i (entry_state e) w.walk s is-s n v next q);
+            (walk_varint frame entry 0 (read_entry frame at end) end i (entry_state e) w.walk is-s n v next q);
         small = w.small;
       }
+
+  -- a field of any other kind
+  pub entry_passed : ((n : ℕ) × (v : ℕ) × (next : ℕ) × (s.field ≡ fields.Varint n v next)) ⊎ Passed s.field
+      → (i < s.at) × (s.at ≤ end) × ReadingEntry frame at end s.at e
+  entry_passed (inl (n, v, next, q)) =
+      let b = varint_bounds frame entry 0 (read_entry frame at end) end i (entry_state e) w.walk is-s q in
+      (b.0, b.1, entry_varint n v next q)
+  entry_passed (inr p) =
+      let b = walk_passed frame entry 0 (read_entry frame at end) end i (entry_state e) w.walk is-s p in
+      (b.0, b.1, record { walk = b.2; small = w.small })
 
   pub entry_bytes : (n start size : ℕ) → s.field ≡ fields.Bytes n start size → (r : MapEntry) → r ≡ with_span n start size e
       → ReadingEntry frame at end s.at r
   entry_bytes n start size q r is_r =
-      let b = bytes_bounds frame entry 0 (read_entry frame at end) end i (entry_state e) w.walk s is-s n start size q in
+      let b = bytes_bounds frame entry 0 (read_entry frame at end) end i (entry_state e) w.walk is-s n start size q in
       let l = w.walk.long in
       let x : length (part frame start (start + size)) ≡ size = part_length frame start (start + size) ∙ omega arith in
       rw is_r
       (record {
-        walk = bytes_taken_lem frame entry 0 (read_entry frame at end) end i (entry_state e) w.walk s is-s n start size q
+        walk = bytes_taken_lem frame entry 0 (read_entry frame at end) end i (entry_state e) w.walk is-s n start size q
             (entry_state (with_span n start size e)) (entry_taken frame (fields_in size frame) start (part frame start (start + size)) e n
             size x);
         small = w.small;

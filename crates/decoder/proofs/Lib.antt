@@ -11,6 +11,7 @@ pub mod Answers
 mod Targets
 mod Walk
 mod RowUpdates
+mod Fours
 mod EntryLaws
 mod StateLaws
 mod MapEntries

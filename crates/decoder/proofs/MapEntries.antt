@@ -13,12 +13,12 @@ use Rattle.decoder.specs.Fields.{State, Result, ok, refused, blank, row_of, ente
 use Rattle.schema.specs.Targets.{an_entry}
 use Rattle.decoder.specs.DecoderState.{state_of, Holds, Ready, Tells, with_field_at, entry_of, row_of_entry}
 use Rattle.decoder.specs.declared.Slots.{Slots}
-use Rattle.decoder.specs.declared.Decoded.{Decoded}
 use Rattle.decoder.specs.declared.entry.MapEntry.{MapEntry}
-use Rattle.decoder.specs.declared.entry.ReadEntry.{ReadEntry}
-use Rattle.decoder.specs.declared.entry.ReadEntry.TheVariants as reads
+use Rattle.refusals.specs.Refusals.{number, in_numbers}
+use Rattle.refusals.specs.declared.Refusal.{Refusal}
+use Rattle.refusals.specs.declared.Refusal.TheVariants as refusals
+use Rattle.std.specs.Prelude as std
 use Rattle.decoder.proofs.RowUpdates.{enter_few}
-use Rattle.decoder.proofs.Results.{Sound, fields_sound}
 
 module _ (frame : List ℕ) (start size : ℕ) (slots : Slots) (numbers : List ℕ) where
   abbrev st : State
@@ -27,41 +27,37 @@ module _ (frame : List ℕ) (start size : ℕ) (slots : Slots) (numbers : List �
   abbrev gives : Result
   gives = with_field_at frame start size st an_entry
 
-  pub too_many : (r : Decoded) → 64 ≤ slots.entries → r.error ≡ 14 → Tells gives r numbers numbers
+  pub too_many : 64 ≤ slots.entries → Tells gives (std.Err refusals.TooManyEntries) numbers numbers
   unfolding with_field
-  too_many r h e =
+  too_many h =
       let z : gives ≡ refused 14 = cc (le-ltb slots.entries 64 h) in
-      subst (λ (o : Result). Tells o r numbers numbers) (sym z) (record { code_is = e; some_code = omega arith; past = refl })
+      subst (λ (o : Result). Tells o (std.Err refusals.TooManyEntries) numbers numbers) (sym z) (record { number_is = refl; past = refl })
 
-  module _ (room : slots.entries < 64) (e : ReadEntry)
-      (is_e : e ≡ entry_of (fields_in (start + size - start) frame entry 0 start (part frame start (start + size)) blank)) where
+  module _ (room : slots.entries < 64) (e : std.Result MapEntry Refusal)
+      (is_e : in_numbers e ≡ entry_of (fields_in (start + size - start) frame entry 0 start (part frame start (start + size)) blank)) where
     abbrev got : Result
     got = fields_in size frame entry 0 start (part frame start (start + size)) blank
 
-    is_entry : e ≡ entry_of got
+    is_entry : in_numbers e ≡ entry_of got
     is_entry =
         let z : start + size - start ≡ size = omega arith in
-        subst (λ (k : ℕ). e ≡ entry_of (fields_in k frame entry 0 start (part frame start (start + size)) blank)) z is_e
+        subst (λ (k : ℕ). in_numbers e ≡ entry_of (fields_in k frame entry 0 start (part frame start (start + size)) blank)) z is_e
 
-    sound : Sound got
-    sound = fields_sound size frame entry 0 start (part frame start (start + size)) blank (omega arith)
-
-    pub entry_refused : (r : Decoded) (code : ℕ) → e ≡ reads.Refused code → r.error ≡ code → Tells gives r numbers numbers
+    pub entry_refused : (refusal : Refusal) → e ≡ std.Err refusal → Tells gives (std.Err refusal) numbers numbers
     unfolding with_field
-    entry_refused r code q f = by got refl
+    entry_refused refusal q = by got refl
       where
-        by : (o : Result) → got ≡ o → Tells gives r numbers numbers
+        by : (o : Result) → got ≡ o → Tells gives (std.Err refusal) numbers numbers
         by (ok s) p =
-            let a : e ≡ entry_of (ok s) = is_entry ∙ ap entry_of p in
-            let z : ◌≡◌ {A = ℕ} 0 1 = cc in let b : ⊥ = omega arith in absurd b
+            let a : in_numbers (std.Err refusal) ≡ entry_of (ok s) = ap in_numbers (sym q) ∙ is_entry ∙ ap entry_of p in
+            let b : ⊥ = cc in absurd b
         by (refused other) p =
-            let a : e ≡ entry_of (refused other) = is_entry ∙ ap entry_of p in
-            let same : other ≡ code = cc in
-            let z : gives ≡ refused code = cc (lt-ltb slots.entries 64 room) in
-            subst (λ (o : Result). Tells o r numbers numbers) (sym z)
-            (record { code_is = f; some_code = omega (arith, subst Sound p sound, same); past = refl })
+            let a : in_numbers (std.Err refusal) ≡ entry_of (refused other) = ap in_numbers (sym q) ∙ is_entry ∙ ap entry_of p in
+            let same : number refusal ≡ other = cc in
+            let z : gives ≡ refused other = cc (lt-ltb slots.entries 64 room) in
+            subst (λ (o : Result). Tells o (std.Err refusal) numbers numbers) (sym z) (record { number_is = same; past = refl })
 
-    module _ (h : Ready slots numbers) (new : MapEntry) (q : e ≡ reads.Entry new) where
+    module _ (h : Ready slots numbers) (new : MapEntry) (q : e ≡ std.Ok new) where
       pub few_rows : slots.rows < 64
       few_rows = let a = h.few in let b = h.rows_are in omega arith
 
@@ -83,8 +79,8 @@ module _ (frame : List ℕ) (start size : ℕ) (slots : Slots) (numbers : List �
             long = h.long;
           }
 
-      abbrev answer : ℕ → Decoded
-      answer count = record { slots = record { values = slots.values; rows = count; entries = slots.entries + 1 }; error = 0 }
+      abbrev answer : ℕ → std.Result Slots Refusal
+      answer count = std.Ok (record { values = slots.values; rows = count; entries = slots.entries + 1 })
 
       pub entry_added : (count : ℕ) (after : List ℕ) → (count ≡ length rows_then) × (after ≡ laid_out rows_then numbers)
           → Tells gives (answer count) after numbers
@@ -93,14 +89,13 @@ module _ (frame : List ℕ) (start size : ℕ) (slots : Slots) (numbers : List �
         where
           by : (o : Result) → got ≡ o → Tells gives (answer count) after numbers
           by (refused code) g =
-              let a : e ≡ entry_of (refused code) = is_entry ∙ ap entry_of g in
-              let z : ◌≡◌ {A = ℕ} 0 1 = cc in let b : ⊥ = omega arith in absurd b
+              let a : in_numbers (std.Ok new) ≡ entry_of (refused code) = ap in_numbers (sym q) ∙ is_entry ∙ ap entry_of g in
+              let b : ⊥ = cc in absurd b
           by (ok s) g =
-              let a : e ≡ entry_of (ok s) = is_entry ∙ ap entry_of g in
-              let same : reads.Entry new ≡ entry_of (ok s) = sym q ∙ a in
+              let same : in_numbers (std.Ok new) ≡ entry_of (ok s) = ap in_numbers (sym q) ∙ is_entry ∙ ap entry_of g in
               let row : row_of_entry new ≡ row_of s = cc in
               let z : gives ≡ ok (add_entry frame s st) = cc (lt-ltb slots.entries 64 room) in
               let y : add_entry frame s st ≡ record { slots = slots.values; rows = rows_then; entries = suc slots.entries } = rw row
               refl in
               subst (λ (o : Result). Tells o (answer count) after numbers)
-              (sym (z ∙ ap ok y)) (record { no_error = refl; holds = entry_held count after p.0 p.1 })
+              (sym (z ∙ ap ok y)) (entry_held count after p.0 p.1)

@@ -1,13 +1,12 @@
 -- The row numbers as rows: what is laid out reads back, and how an entry is stored.
 use Prim.Native.Nat.{ℕ, zero, suc, ◌+◌, ◌*◌, ◌-◌, ◌/◌, ◌<◌, ◌≤◌, min}
-use mathlib.Core.Path.{◌≡◌, refl, sym, ap, subst, ◌∙◌}
+use mathlib.Core.Path.{◌≡◌, refl, sym, ap, ◌∙◌}
 use mathlib.Core.Bool.{Bool, true, false, ◌&&◌}
 use mathlib.Core.List.{List, [], ◌∷◌, ◌++◌, append_assoc}
-use lib.ListN.{length, drop, get_or, set, replicate, length-append, length-drop, length-replicate}
-use lib.Seq.{drop_at, drop-cons, drop-drop, set_at, get_or-drop}
+use lib.ListN.{length, drop, get_or, replicate, length-append, length-drop, length-replicate}
+use lib.Seq.{drop_at, drop-drop, get_or-drop}
 use lib.Dec.{eqb}
 use native.Mathlib.Omega.{arith}
-use native.Mathlib.Numerals.{add-one}
 use borrow.Author.Tests.{eq-eqb, eqb-true}
 use Rattle.decoder.specs.Rows.{Row, row_numbers, flat, laid_out, rows_in, rows_lent}
 use Rattle.decoder.specs.Fields.{State, same_bytes}
@@ -161,19 +160,3 @@ rows_from (suc n) (suc i) l =
     let left : suc n - suc i ≡ n - i = omega arith in
     let four : suc i * 4 ≡ 4 + i * 4 = omega arith in
     rows_from n i (drop 4 l) ∙ rw (left, four) (ap (rows_in (n - i)) (drop-drop (i * 4) 4 l))
-
--- ---- clearing
-
-more_zeros : (i : ℕ) (z : List ℕ) → replicate i 0 ++ (0 ∷ z) ≡ replicate (suc i) 0 ++ z
-more_zeros zero z = refl
-more_zeros (suc i) z = ap (λ (x : List ℕ). 0 ∷ x) (more_zeros i z)
-
--- the first i numbers are 0, and one more
-pub cleared_more : (l : List ℕ) (i : ℕ) → i < length l → set (replicate i 0 ++ drop i l) i 0 ≡ replicate (i + 1) 0 ++ drop (i + 1) l
-cleared_more l i h =
-    ap (λ (x : List ℕ). set (replicate i 0 ++ x) i 0) (drop-cons l i 0 h)
-    ∙ set_at (replicate i 0) (get_or l i 0) (drop (suc i) l) 0 i (length-replicate {A = ℕ} i 0)
-    ∙ subst (λ (n : ℕ). replicate i 0 ++ (0 ∷ drop (suc i) l) ≡ replicate n 0 ++ drop n l) (sym (add-one i)) (more_zeros i (drop (suc i) l))
-
-pub cleared_all : (numbers lent : List ℕ) (i : ℕ) → i ≡ 256 → numbers ≡ replicate i 0 ++ drop i lent → numbers ≡ laid_out [] lent
-cleared_all numbers lent i e q = subst (λ (n : ℕ). numbers ≡ replicate n 0 ++ drop n lent) e q

@@ -12,7 +12,8 @@ use Rattle.decoder.specs.Fields.{State, Result, ok, set_slot, set_bytes, set_num
 use Rattle.schema.specs.Targets.{Target, a_number, some_bytes, an_entry, a_message, unknown}
 use Rattle.decoder.specs.DecoderState.{state_of, Holds, Ready, Tells, with_field_at, read_at, with_number, with_bytes}
 use Rattle.decoder.specs.declared.Slots.{Slots}
-use Rattle.decoder.specs.declared.Decoded.{Decoded}
+use Rattle.refusals.specs.declared.Refusal.{Refusal}
+use Rattle.std.specs.Prelude as std
 
 module _ (st : State) (slots : Slots) (numbers lent : List ℕ) (h : Holds st slots numbers lent) where
   -- one slot with another value
@@ -58,25 +59,25 @@ module _ (frame : List ℕ) (start size : ℕ) (slots : Slots) (numbers : List �
   gives = with_field_at frame start size (state_of slots numbers) t
 
   pub inside_bytes : (h : Ready slots numbers) (i : ℕ) → t ≡ some_bytes i → (r : Slots) → r ≡ with_bytes i start size slots
-      → Tells gives (record { slots = r; error = 0 }) numbers numbers
+      → Tells gives (std.Ok r) numbers numbers
   unfolding with_field
   inside_bytes h i e r is_r =
       let x : length (part frame start (start + size)) ≡ size = part_length frame start (start + size) ∙ omega arith in
       let z : gives ≡ ok (set_bytes i start size (state_of slots numbers)) = rw (e, x) refl in
-      subst (λ (o : Result). Tells o (record { slots = r; error = 0 }) numbers numbers) (sym z)
-      (record { no_error = refl; holds = rw is_r (bytes_held (state_of slots numbers) slots numbers numbers h i start size) })
+      subst (λ (o : Result). Tells o (std.Ok r) numbers numbers) (sym z)
+      (rw is_r (bytes_held (state_of slots numbers) slots numbers numbers h i start size))
 
   pub inside_number : (h : Ready slots numbers) (i : ℕ) → t ≡ a_number i
-      → Tells gives (record { slots = slots; error = 0 }) numbers numbers
+      → Tells gives (std.Ok slots) numbers numbers
   unfolding with_field
-  inside_number h i e = rw e (record { no_error = refl; holds = h })
+  inside_number h i e = rw e h
 
   pub inside_unknown : (h : Ready slots numbers) → t ≡ unknown
-      → Tells gives (record { slots = slots; error = 0 }) numbers numbers
+      → Tells gives (std.Ok slots) numbers numbers
   unfolding with_field
-  inside_unknown h e = rw e (record { no_error = refl; holds = h })
+  inside_unknown h e = rw e h
 
-  pub inside_entry : (r : Decoded) (after : List ℕ) → t ≡ an_entry
+  pub inside_entry : (r : std.Result Slots Refusal) (after : List ℕ) → t ≡ an_entry
       → Tells (with_field_at frame start size (state_of slots numbers) an_entry) r after numbers
       → Tells gives r after numbers
   inside_entry r after e q = rw e q
@@ -84,7 +85,7 @@ module _ (frame : List ℕ) (start size : ℕ) (slots : Slots) (numbers : List �
   abbrev marked : ℕ → Slots
   marked i = record { values = set slots.values i 1; rows = slots.rows; entries = slots.entries }
 
-  pub inside_message : (i inner : ℕ) → t ≡ a_message i (part_schema inner) → slot_at inner ≡ i + 1 → (r : Decoded) (after : List ℕ)
+  pub inside_message : (i inner : ℕ) → t ≡ a_message i (part_schema inner) → slot_at inner ≡ i + 1 → (r : std.Result Slots Refusal) (after : List ℕ)
       → Tells (read_at frame inner start (start + size) (state_of (marked i) numbers)) r after numbers
       → Tells gives r after numbers
   unfolding with_field set_slot

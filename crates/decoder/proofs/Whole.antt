@@ -1,6 +1,7 @@
 -- The whole message: the slots start blank over cleared rows, and what is read of the part is the message.
 use Prim.Native.Nat.{ℕ, ◌-◌, ◌≤◌}
 use mathlib.Core.Path.{◌≡◌, refl, sym, ap, subst, ◌∙◌}
+use mathlib.Core.Bool.{true, false}
 use mathlib.Core.List.{List, []}
 use lib.ListN.{length, drop, replicate}
 use native.Mathlib.Omega.{arith}
@@ -9,10 +10,12 @@ use Rattle.wire_read.proofs.PartLaws.{part_length}
 use Rattle.schema.specs.Schema.{schema_at, part_schema, slot_at}
 use Rattle.decoder.specs.Rows.{row_numbers, laid_out, rows_in}
 use Rattle.decoder.specs.Fields.{State, Result, ok, refused, blank, read_message}
-use Rattle.decoder.specs.Decoding.{refused_as, read_as, outcome}
+use Rattle.decoder.specs.Decoding.{read_as, outcome}
 use Rattle.decoder.specs.DecoderState.{state_of, Holds, Tells, read_at}
 use Rattle.decoder.specs.declared.Slots.{Slots}
-use Rattle.decoder.specs.declared.Decoded.{Decoded}
+use Rattle.refusals.specs.Refusals.{in_numbers}
+use Rattle.refusals.specs.declared.Refusal.{Refusal}
+use Rattle.std.specs.Prelude as std
 use Rattle.decoder.proofs.RowLaws.{drop_laid, held}
 
 abbrev pub no_slots : Slots
@@ -35,11 +38,10 @@ module _ (numbers lent : List ℕ) (clear : numbers ≡ laid_out [] lent) (long 
   pub blank_held : Holds (state_of no_slots numbers) no_slots numbers numbers
   blank_held = held blank no_slots numbers lent blank_holds
 
-same_answer : (d : Decoded) (st : State) → d.error ≡ 0 → d.slots.values ≡ st.slots → d.slots.rows ≡ length st.rows
-    → d.slots.entries ≡ st.entries → d ≡ read_as st
-same_answer d st e f g h = rw (← e, ← f, ← g, ← h) refl
+same_slots : (s : Slots) (st : State) → s.values ≡ st.slots → s.rows ≡ length st.rows → s.entries ≡ st.entries → s ≡ read_as st
+same_slots s st f g h = rw (← f, ← g, ← h) refl
 
-module _ (frame : List ℕ) (schema at end s : ℕ) (lent numbers after : List ℕ) (d : Decoded)
+module _ (frame : List ℕ) (schema at end s : ℕ) (lent numbers after : List ℕ) (d : std.Result Slots Refusal)
     (fits : end ≤ length frame) (is-s : (part_schema s ≡ schema_at schema) × (slot_at s ≡ 0)) (clear : numbers ≡ laid_out [] lent)
     (tells : Tells (read_at frame s at end (state_of no_slots numbers)) d after numbers) where
   abbrev message : Result
@@ -60,24 +62,25 @@ module _ (frame : List ℕ) (schema at end s : ℕ) (lent numbers after : List �
   relaid : (l : List ℕ) → drop row_numbers l ≡ drop row_numbers lent → laid_out [] l ≡ laid_out [] lent
   relaid l e = rw e refl
 
-  abbrev Gives : Decoded → (last : List ℕ) → Result → Type 0
-  Gives r last o = (r ≡ (outcome o lent).answer) × (last ≡ (outcome o lent).rows)
+  abbrev Gives : std.Result Slots Refusal → (last : List ℕ) → Result → Type 0
+  Gives r last o = (in_numbers r ≡ (outcome o lent).answer) × (last ≡ (outcome o lent).rows)
 
-  pub decoded : d.error ≡ 0 → Gives d after message
+  pub decoded : std.is_err d ≡ false → Gives d after message
   unfolding outcome
-  decoded z = by message told
+  decoded z = by message d told z
     where
-      by : (o : Result) → Tells o d after numbers → Gives d after o
-      by (ok st) t =
-          let h = t.holds in
-          (same_answer d st t.no_error h.values_are h.rows_are h.entries_are, rw (← past) h.laid)
-      by (refused code) t = let a = t.code_is in let b = t.some_code in let c : ⊥ = omega arith in absurd c
+      by : (o : Result) (x : std.Result Slots Refusal) → Tells o x after numbers → std.is_err x ≡ false → Gives x after o
+      by (ok st) (std.Ok slots) h z = (ap std.Ok (same_slots slots st h.values_are h.rows_are h.entries_are), rw (← past) h.laid)
+      by (ok st) (std.Err refusal) t z = absurd t
+      by (refused code) (std.Ok slots) t z = absurd t
+      by (refused code) (std.Err refusal) t z = let c : ⊥ = cc in absurd c
 
-  pub not_decoded : (d.error ≡ 0 → ⊥) → (r : Decoded) → r ≡ refused_as d.error → (last : List ℕ) → last ≡ laid_out [] after
-      → Gives r last message
+  pub not_decoded : std.is_err d ≡ true → (last : List ℕ) → last ≡ laid_out [] after → Gives d last message
   unfolding outcome
-  not_decoded z r g last e = by message told
+  not_decoded z last e = by message d told z
     where
-      by : (o : Result) → Tells o d after numbers → Gives r last o
-      by (ok st) t = absurd (z t.no_error)
-      by (refused code) t = (g ∙ ap refused_as t.code_is, e ∙ relaid after (t.past ∙ past))
+      by : (o : Result) (x : std.Result Slots Refusal) → Tells o x after numbers → std.is_err x ≡ true → Gives x last o
+      by (ok st) (std.Ok slots) h z = let c : ⊥ = cc in absurd c
+      by (ok st) (std.Err refusal) t z = absurd t
+      by (refused code) (std.Ok slots) t z = absurd t
+      by (refused code) (std.Err refusal) t z = (ap std.Err t.number_is, e ∙ relaid after (t.past ∙ past))

@@ -1,5 +1,6 @@
 // A map entry: "a message of key 1 and value 2".
 ghost use Rattle.std.specs.Prelude.{◌≡◌, ◌+◌, ◌-◌, ◌≤◌, length};
+ghost use Rattle.refusals.specs.Refusals.{in_numbers};
 ghost use Rattle.fixed_header.specs.Header.{max_frame};
 ghost use Rattle.wire_read.specs.Part.{part};
 ghost use Rattle.schema.specs.Schema.{entry};
@@ -7,6 +8,7 @@ ghost use Rattle.decoder.specs.Fields.{fields_in, blank};
 ghost use Rattle.decoder.specs.DecoderState.{entry_of, with_span};
 
 use crate::walking::{start_of, step_in};
+use refusals::Refusal;
 use wire_read::Field;
 
 // The starts and lengths of an entry's key and value; an empty one is 0, 0.
@@ -16,12 +18,6 @@ pub(crate) struct MapEntry {
     pub key_size: u32,
     pub value: u32,
     pub value_size: u32,
-}
-
-#[derive(Clone, Copy)]
-pub(crate) enum ReadEntry {
-    Entry(MapEntry),
-    Refused(u32),
 }
 
 // The entry with the bytes of its field of this number.
@@ -51,9 +47,9 @@ fn set_span(e: MapEntry, number: u32, start: usize, size: usize) -> MapEntry
 }
 
 // The entry in the bytes of the frame from `at` to `end`.
-pub(crate) fn read_entry(frame: &[u8], at: usize, end: usize) -> ReadEntry
+pub(crate) fn read_entry(frame: &[u8], at: usize, end: usize) -> Result<MapEntry, Refusal>
     requires { (at ≤ end) × (end ≤ length frame.now) × (length frame.now ≤ max_frame) }
-    ensures { result ≡ entry_of (fields_in (end - at) frame.now entry 0 at (part frame.now at end) blank) }
+    ensures { in_numbers result ≡ entry_of (fields_in (end - at) frame.now entry 0 at (part frame.now at end) blank) }
 {
     let mut e = MapEntry {
         key: 0,
@@ -62,24 +58,12 @@ pub(crate) fn read_entry(frame: &[u8], at: usize, end: usize) -> ReadEntry
         value_size: 0,
     };
     let mut i = at;
-    loop {
-        let step = step_in(frame, i, end);
-        let f = step.field;
-        match f {
-            Field::End => {
-                break ReadEntry::Entry(e);
-            }
-            Field::Refused(code) => {
-                break ReadEntry::Refused(code);
-            }
-            Field::Bytes(number, start, size) => {
-                e = set_span(e, number, start, size);
-            }
-            Field::Varint(_, _, _) => {}
-            Field::Fixed64(_, _, _) => {}
-            Field::Group(_, _) => {}
-            Field::Fixed32(_, _, _) => {}
+    while let Some(step) = step_in(frame, i, end)? {
+        match step.field {
+            Field::Bytes(number, start, size) => e = set_span(e, number, start, size),
+            Field::Varint(..) | Field::Fixed64(..) | Field::Group(..) | Field::Fixed32(..) => {}
         }
         i = step.at;
     }
+    Ok(e)
 }

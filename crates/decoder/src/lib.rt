@@ -7,14 +7,15 @@ mod messages;
 mod rows;
 mod walking;
 
-ghost use Rattle.std.specs.Prelude.{◌≡◌, min, length};
+ghost use Rattle.std.specs.Prelude.{◌≡◌};
+ghost use Rattle.refusals.specs.Refusals.{in_numbers};
 ghost use Rattle.decoder.specs.Rows.{rows_lent, rows_cleared};
 ghost use Rattle.decoder.specs.Fields.{part_of, same_bytes, key_place};
 ghost use Rattle.decoder.specs.Decoding.{decoded};
 
 use fixed_header::MAX_FRAME;
-use messages::{decode_part, refused};
-use refusals::{ROWS_SHORT, WRONG_FRAME};
+use messages::decode_part;
+use refusals::Refusal;
 use rows::clear;
 
 // The numbers that the rows may take, four to a row.
@@ -22,6 +23,7 @@ pub const ROW_NUMBERS: usize = 256;
 
 // The values of a message's fields by its schema's order, how many rows there are, and how many map
 // entries were seen, repeats counted.
+// An array, since a slot is named by its number (`field_target`).
 #[derive(Clone, Copy)]
 pub struct Slots {
     pub values: [u32; 16],
@@ -29,34 +31,27 @@ pub struct Slots {
     pub entries: u32,
 }
 
-// What was read; or the error code, where it is not 0, and the slots are all zero.
-#[derive(Clone, Copy)]
-pub struct Decoded {
-    pub slots: Slots,
-    pub error: u32,
-}
-
-// The smaller of two places.
-fn least(a: usize, b: usize) -> usize
-    ensures { result ≡ min a b }
-{
-    if a < b { a } else { b }
-}
-
 // Reads the bytes of the frame from `at` up to `end`, as far as they exist, as the message of the
 // schema number. The map rows go to the first 256 of the lent numbers.
-pub fn decode(frame: &[u8], at: usize, end: usize, schema: u32, rows: &mut [u32]) -> Decoded
-    ensures value { result ≡ (decoded frame.now at end schema rows.old).answer }
+// The schema number may be any: one that names no message is of one without fields (`schema_at`).
+pub fn decode(
+    frame: &[u8],
+    at: usize,
+    end: usize,
+    schema: u32,
+    rows: &mut [u32],
+) -> Result<Slots, Refusal>
+    ensures value { in_numbers result ≡ (decoded frame.now at end schema rows.old).answer }
     ensures rows_after { rows.new ≡ (decoded frame.now at end schema rows.old).rows }
 {
     if rows.len() < ROW_NUMBERS {
-        return refused(ROWS_SHORT);
+        return Err(Refusal::RowsShort);
     }
     if MAX_FRAME < frame.len() {
-        return refused(WRONG_FRAME);
+        return Err(Refusal::WrongFrame);
     }
-    let stop = least(end, frame.len());
-    decode_part(frame, least(at, stop), stop, schema, rows)
+    let stop = end.min(frame.len());
+    decode_part(frame, at.min(stop), stop, schema, rows)
 }
 
 // Leaves no rows: the first 256 numbers are 0 then. A shorter slice is left as it is.
@@ -73,8 +68,8 @@ fn named(bytes: &[u8], start: usize, size: usize) -> &[u8]
     ensures { result.now ≡ part_of bytes.now start size }
 {
     let n = bytes.len();
-    let from = least(start, n);
-    let end = from + least(size, n - from);
+    let from = start.min(n);
+    let end = from + size.min(n - from);
     &bytes[from..end]
 }
 
@@ -90,20 +85,9 @@ pub fn same_key(bytes: &[u8], a: usize, a_size: usize, b: usize, b_size: usize) 
 pub fn find_key(bytes: &[u8], rows: &[u32], count: usize, key: usize, key_size: usize) -> usize
     ensures { result ≡ key_place bytes.now (part_of bytes.now key key_size) (rows_lent count rows.now) }
 {
-    let n = least(count, rows.len() / 4);
-    let mut i = 0;
-    while i < n {
-        let at = i * 4;
-        if same_key(
-            bytes,
-            rows[at] as usize,
-            rows[at + 1] as usize,
-            key,
-            key_size,
-        ) {
-            return i;
-        }
-        i += 1;
-    }
-    i
+    let (rows, _) = rows.as_chunks::<4>();
+    let rows = &rows[..count.min(rows.len())];
+    rows.iter()
+        .position(|row| same_key(bytes, row[0] as usize, row[1] as usize, key, key_size))
+        .unwrap_or(rows.len())
 }

@@ -14,9 +14,9 @@ use Rattle.fixed_header.specs.Header.{ceiling_ok, CeilingOk, header_error, total
 use Rattle.deframer.specs.Deframe.{known_of, stream, whole_or_more, next_frame, reach, next_state, moved, advance, refuse, unmoved}
 use Rattle.deframer.specs.Deframe.{deframed}
 use Rattle.deframer.specs.declared.Deframer.{Deframer}
-use Rattle.deframer.specs.declared.Step.{Step}
-use Rattle.deframer.specs.declared.Progress.{Progress}
-use Rattle.deframer.specs.declared.Progress.TheVariants.{Frame, NeedMore, Refused}
+use Rattle.deframer.specs.Step.{Step}
+use Rattle.deframer.specs.Progress.{Progress}
+use Rattle.deframer.specs.Progress.{Frame, NeedMore, Refused}
 use Rattle.deframer.proofs.Lists.{stream_length, stream_head, drop_stream}
 use Rattle.laws.proofs.Lists.{drop_past}
 use Rattle.fixed_header.proofs.Codes.{ceiling_ok_lem, good_total}

@@ -13,7 +13,7 @@ use Rattle.fixed_header.specs.Header.{CeilingOk}
 use Rattle.fixed_header.proofs.Codes.{ceiling_ok_lem}
 use Rattle.deframer.specs.Deframe.{unmoved, deframed, ended}
 use Rattle.deframer.specs.declared.Deframer.{Deframer}
-use Rattle.deframer.specs.declared.End.TheVariants as end
+use Rattle.deframer.specs.End as end
 use Rattle.deframer.proofs.Known.{unknown_past}
 use Rattle.deframer.proofs.Advance.{call_unknown}
 

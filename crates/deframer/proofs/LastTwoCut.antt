@@ -25,8 +25,8 @@ use Rattle.fixed_header.proofs.Codes.{ceiling_range}
 use Rattle.fixed_header.proofs.LastTwo.{first_error, first_total}
 use Rattle.deframer.specs.Deframe.{Out, known_of, stream, next_frame, reach, next_state, advance, unmoved, deframed, ended}
 use Rattle.deframer.specs.declared.Deframer.{Deframer}
-use Rattle.deframer.specs.declared.Progress.{Progress}
-use Rattle.deframer.specs.declared.Progress.TheVariants.{Frame, NeedMore, Refused}
+use Rattle.deframer.specs.Progress.{Progress}
+use Rattle.deframer.specs.Progress.{Frame, NeedMore, Refused}
 use Rattle.deframer.proofs.Advance.{call_ceiling, call_small}
 
 -- ---- answers, case by case

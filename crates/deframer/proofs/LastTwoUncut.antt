@@ -20,7 +20,7 @@ use Rattle.fixed_header.specs.Header.{total_of}
 use Rattle.fixed_header.proofs.Codes.{good_total}
 use Rattle.fixed_header.proofs.LastTwo.{first_error, first_total}
 use Rattle.deframer.specs.Stream.{Uncut, stops, before, uncut, laid}
-use Rattle.deframer.specs.declared.End.{End}
+use Rattle.deframer.specs.End.{End}
 use Rattle.deframer.proofs.Advance.{Shape, short, bad, part, whole, shape}
 use Rattle.deframer.proofs.Uncut.{Whole, uncut_short, uncut_bad, uncut_part, uncut_whole, uncut_frame}
 

@@ -29,9 +29,9 @@ use Rattle.fixed_header.specs.Header.{ceiling_ok, CeilingOk, header_error, total
 use Rattle.fixed_header.proofs.Codes.{ceiling_ok_lem, ceiling_range, good_total}
 use Rattle.deframer.specs.Deframe.{Out, known_of, stream, next_frame, reach, advance, unmoved, deframed, ended}
 use Rattle.deframer.specs.declared.Deframer.{Deframer}
-use Rattle.deframer.specs.declared.Progress.{Progress}
-use Rattle.deframer.specs.declared.Progress.TheVariants.{Frame, Refused}
-use Rattle.deframer.specs.declared.End.TheVariants as end
+use Rattle.deframer.specs.Progress.{Progress}
+use Rattle.deframer.specs.Progress.{Frame, Refused}
+use Rattle.deframer.specs.End as end
 use Rattle.deframer.proofs.Known.{known_good, unknown_header, unknown_code}
 use Rattle.deframer.proofs.Advance.{Shape, short, bad, part, whole, shape, next_short, next_bad, next_part, next_whole}
 use Rattle.deframer.proofs.Advance.{call_ceiling, call_small, call_unknown, call_refused_lem, call_moves}

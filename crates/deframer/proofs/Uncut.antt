@@ -10,7 +10,7 @@ use lib.ListN.{length, take, drop, length-append, length-drop, take-append-drop}
 use lib.Seq.{length-take-le, take-append-le, take_at, drop_at, take-take}
 use Rattle.fixed_header.specs.Header.{header_error, total_of}
 use Rattle.deframer.specs.Stream.{Uncut, stops, before, uncut_in, uncut}
-use Rattle.deframer.specs.declared.End.TheVariants.{Clean, Short, Refused}
+use Rattle.deframer.specs.End.{Clean, Short, Refused}
 use Rattle.fixed_header.proofs.Codes.{good_total}
 use Rattle.deframer.proofs.Advance.{Shape, short, bad, part, whole, shape}
 

@@ -3,11 +3,11 @@
 use Rattle.std.specs.Prelude.{ℕ, ◌-◌, List, ◌++◌, Bool, true, false, not, cond, ◌&&◌, eqb, ltb, leb, length, take, drop}
 use Rattle.fixed_header.specs.Header.{ceiling_ok, header_error, total_of}
 use Rattle.deframer.specs.declared.Deframer.{Deframer}
-use Rattle.deframer.specs.declared.Step.{Step}
-use Rattle.deframer.specs.declared.Progress.{Progress}
-use Rattle.deframer.specs.declared.Progress.TheVariants.{Frame, NeedMore, Refused}
-use Rattle.deframer.specs.declared.End.{End}
-use Rattle.deframer.specs.declared.End.TheVariants as end
+use Rattle.deframer.specs.Step.{Step}
+use Rattle.deframer.specs.Progress.{Progress}
+use Rattle.deframer.specs.Progress.{Frame, NeedMore, Refused}
+use Rattle.deframer.specs.End.{End}
+use Rattle.deframer.specs.End as end
 
 -- "Fresh means 0 and 0."
 abbrev pub fresh : Deframer

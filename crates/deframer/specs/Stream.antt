@@ -2,8 +2,8 @@
 -- ceiling .. throughout, for the uncut reading too"), nothing of a state or a buffer
 use Rattle.std.specs.Prelude.{ℕ, suc, zero, ◌≡◌, List, [], ◌∷◌, ◌++◌, cond, eqb, ltb, leb, length, take, drop}
 use Rattle.fixed_header.specs.Header.{header_error, total_of}
-use Rattle.deframer.specs.declared.End.{End}
-use Rattle.deframer.specs.declared.End.TheVariants.{Clean, Short, Refused}
+use Rattle.deframer.specs.End.{End}
+use Rattle.deframer.specs.End.{Clean, Short, Refused}
 
 -- the frames, as bytes, and how the stream ends. What each frame's message reads as is a function of the frame's bytes, its kind and the
 -- row numbers lent, so the layer of the messages maps that over `frames`

@@ -1,73 +1,69 @@
 // How the deframer fills its buffer: the header first, then the rest of the frame.
-ghost use Rattle.std.specs.Prelude.{◌≡◌, ◌++◌, cond, ◌+◌, ◌-◌, ◌≤◌, ◌<◌, min, ltb, length, take, drop};
+ghost use Rattle.std.specs.Prelude.{◌≡◌, ◌++◌, cond, ◌+◌, ◌-◌, ◌≤◌, ◌<◌, min, length, take, drop, is_some, IfSome};
+ghost use Rattle.refusals.specs.Refusals.{number};
 ghost use Rattle.fixed_header.specs.Header.{CeilingOk, header_error, total_of};
 ghost use Rattle.deframer.specs.Deframe.{known_of, stream, whole_or_more, moved, advance, refuse, deframed};
+ghost use Rattle.deframer.specs.InNumbers.{step_in_numbers};
 
 use crate::{Deframer, Progress, Step};
 use copying::copy_to;
 use fixed_header::{HEADER, check_header, declared_size, header_good};
-use refusals::STATE_UNKNOWN;
+use refusals::Refusal;
 
 // A refused call: the state as given, nothing taken.
-pub(crate) fn refused(code: u32, state: Deframer) -> Step
-    ensures { result ≡ refuse code state }
+pub(crate) fn refused(refusal: Refusal, state: Deframer) -> Step
+    ensures { step_in_numbers result ≡ refuse (number refusal) state }
 {
     Step {
-        progress: Progress::Refused(code),
+        progress: Progress::Refused(refusal),
         next: state,
         taken: 0,
     }
 }
 
-// The size of the frame that the bytes start with, where its header is good and `held` bytes are not all of it; else 0.
-fn frame_size(bytes: &[u8], ceiling: u32, held: usize) -> usize
-    ensures in_bounds { (result ≡ 0 → ⊥) → (16 ≤ length bytes.now) × (header_error ceiling (take 16 bytes.now) ≡ 0)
-        × (result ≡ total_of (take 16 bytes.now)) × (held < result) }
+// The size of the frame that the bytes start with, where its header is good and `held` bytes are not all of it.
+fn frame_size(bytes: &[u8], ceiling: u32, held: usize) -> Option<usize>
+    ensures in_bounds { IfSome result (λ total. (16 ≤ length bytes.now) × (header_error ceiling (take 16 bytes.now) ≡ 0)
+        × (total ≡ total_of (take 16 bytes.now)) × (held < total)) }
     ensures bytes_value { 16 ≤ held → 16 ≤ length bytes.now
-        → known_of ceiling (record { held = held; error = 0 }) bytes.now ≡ ltb 0 result }
+        → known_of ceiling (record { held = held; error = 0 }) bytes.now ≡ is_some result }
 {
     if bytes.len() < HEADER {
-        return 0;
+        return None;
     }
     if !header_good(&bytes[..HEADER], ceiling) {
-        return 0;
+        return None;
     }
     let total = declared_size(bytes);
     if total <= held {
-        return 0;
+        return None;
     }
-    total
+    Some(total)
 }
 
-// Whether a call can have left this state with this buffer.
-pub(crate) fn known(state: Deframer, buffer: &[u8], ceiling: u32) -> bool
+// Whether a call that refused nothing can have left so many bytes in this buffer.
+pub(crate) fn known(held: usize, buffer: &[u8], ceiling: u32) -> bool
     requires { CeilingOk ceiling × (ceiling ≤ length buffer.now) }
-    ensures { result ≡ known_of ceiling state buffer.now }
+    ensures { result ≡ known_of ceiling (record { held = held; error = 0 }) buffer.now }
 {
-    let held = state.held;
-    let error = state.error;
-    if error == 0 {
-        if held < HEADER {
-            return true;
-        }
-        return 0 < frame_size(buffer, ceiling, held);
+    if held < HEADER {
+        return true;
     }
-    if held != HEADER {
-        return false;
-    }
-    check_header(&buffer[..HEADER], ceiling) == error
+    frame_size(buffer, ceiling, held).is_some()
 }
 
-// A call after a refused header: its code again, where the state is known.
-pub(crate) fn repeated(state: Deframer, buffer: &[u8], ceiling: u32) -> Step
+// The refusal that a state holds, where the state is known. It is asked of states with a number other than 0.
+pub(crate) fn held_refusal(state: Deframer, buffer: &[u8], ceiling: u32) -> Refusal
     requires { CeilingOk ceiling × (ceiling ≤ length buffer.now) }
-    ensures { result ≡ refuse (cond (known_of ceiling state buffer.now) state.error 2) state }
+    ensures { (state.error ≡ 0 → ⊥) → number result ≡ cond (known_of ceiling state buffer.now) state.error 2 }
 {
-    let error = state.error;
-    if known(state, buffer, ceiling) {
-        return refused(error, state);
+    if state.held != HEADER {
+        return Refusal::StateUnknown;
     }
-    refused(STATE_UNKNOWN, state)
+    match check_header(&buffer[..HEADER], ceiling) {
+        Err(refusal) if refusal.number() == state.error => refusal,
+        _ => Refusal::StateUnknown,
+    }
 }
 
 // Puts the source after the bytes held.
@@ -98,7 +94,7 @@ fn fill(buffer: &mut [u8], held: usize, goal: usize, piece: &[u8]) -> usize
 // the buffer already.
 fn content(buffer: &mut [u8], old: usize, held: usize, total: usize, piece: &[u8]) -> Step
     requires { (total ≤ length buffer.old) × (held ≤ total) × (old ≤ held) × (held - old ≤ length piece.now) }
-    ensures value { result ≡ (moved (whole_or_more total (stream held buffer.old (drop (held - old) piece.now)))
+    ensures value { step_in_numbers result ≡ (moved (whole_or_more total (stream held buffer.old (drop (held - old) piece.now)))
         old buffer.old (stream held buffer.old (drop (held - old) piece.now))).step }
     ensures buffer_after { buffer.new
         ≡ (moved (whole_or_more total (stream held buffer.old (drop (held - old) piece.now)))
@@ -126,21 +122,20 @@ fn content(buffer: &mut [u8], old: usize, held: usize, total: usize, piece: &[u8
 // A frame of which 16 bytes or more are held: their header is checked again, since the state and the buffer are the caller's.
 pub(crate) fn more(state: Deframer, buffer: &mut [u8], ceiling: u32, piece: &[u8]) -> Step
     requires { CeilingOk ceiling × (ceiling ≤ length buffer.old) × (16 ≤ state.held) × (state.error ≡ 0) }
-    ensures value { result ≡ (deframed ceiling state buffer.old piece.now).step }
+    ensures value { step_in_numbers result ≡ (deframed ceiling state buffer.old piece.now).step }
     ensures buffer_after { buffer.new ≡ (deframed ceiling state buffer.old piece.now).buffer }
 {
     let held = state.held;
-    let total = frame_size(buffer, ceiling, held);
-    if total == 0 {
-        return refused(STATE_UNKNOWN, state);
+    match frame_size(buffer, ceiling, held) {
+        None => refused(Refusal::StateUnknown, state),
+        Some(total) => content(buffer, held, held, total, piece),
     }
-    content(buffer, held, held, total, piece)
 }
 
 // The header, of which fewer than 16 bytes are held, is checked once its 16th byte is there; after a good one the frame goes on.
 fn head(buffer: &mut [u8], ceiling: u32, held: usize, piece: &[u8]) -> Step
     requires { CeilingOk ceiling × (ceiling ≤ length buffer.old) × (held < 16) }
-    ensures value { result ≡ (advance ceiling held buffer.old (stream held buffer.old piece.now)).step }
+    ensures value { step_in_numbers result ≡ (advance ceiling held buffer.old (stream held buffer.old piece.now)).step }
     ensures buffer_after { buffer.new
         ≡ (advance ceiling held buffer.old (stream held buffer.old piece.now)).buffer }
 {
@@ -155,31 +150,32 @@ fn head(buffer: &mut [u8], ceiling: u32, held: usize, piece: &[u8]) -> Step
             taken: filled - held,
         };
     }
-    let code = check_header(&buffer[..HEADER], ceiling);
-    if code != 0 {
-        return Step {
-            progress: Progress::Refused(code),
+    let checked = check_header(&buffer[..HEADER], ceiling);
+    match checked {
+        Err(refusal) => Step {
+            progress: Progress::Refused(refusal),
             next: Deframer {
                 held: HEADER,
-                error: code,
+                error: refusal.number(),
             },
             taken: HEADER - held,
-        };
+        },
+        Ok(()) => {
+            let total = declared_size(buffer);
+            content(buffer, held, HEADER, total, piece)
+        }
     }
-    let total = declared_size(buffer);
-    content(buffer, held, HEADER, total, piece)
 }
 
 // Fewer than 16 bytes are held. Where none is, and the piece has a good header, one copy takes what the piece has of the frame.
 pub(crate) fn start(buffer: &mut [u8], ceiling: u32, held: usize, piece: &[u8]) -> Step
     requires { CeilingOk ceiling × (ceiling ≤ length buffer.old) × (held < 16) }
-    ensures value { result ≡ (advance ceiling held buffer.old (stream held buffer.old piece.now)).step }
+    ensures value { step_in_numbers result ≡ (advance ceiling held buffer.old (stream held buffer.old piece.now)).step }
     ensures buffer_after { buffer.new
         ≡ (advance ceiling held buffer.old (stream held buffer.old piece.now)).buffer }
 {
     if held == 0 {
-        let total = frame_size(piece, ceiling, 0);
-        if total != 0 {
+        if let Some(total) = frame_size(piece, ceiling, 0) {
             return content(buffer, 0, 0, total, piece);
         }
     }

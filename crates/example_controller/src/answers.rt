@@ -1,27 +1,21 @@
 // How a stream ended, and the answers to the requests.
 use crate::lines::line_of;
-use crate::print::{part, print, print_bytes, print_number};
+use crate::print::{part, print_bytes};
 use deframer::{Deframer, End};
 use queue::{Job, Queue};
 use records::{Record, Response, Span};
+use refusals::Refusal;
 use std::io::Stdout;
-use writer::Encoded;
 
 pub(crate) fn print_end(out: Stdout, deframer: Deframer, buffer: &[u8], ceiling: u32) {
-    let end = deframer::finish(deframer, buffer, ceiling);
-    match end {
-        End::Clean => print(out, b"the stream ends clean\n"),
-        End::Short(held) => {
-            print(out, b"the stream ends short, with ");
-            print_number(out, held as u64);
-            print(out, b" bytes held\n");
+    let _ = match deframer::finish(deframer, buffer, ceiling) {
+        End::Clean => println!(out; "the stream ends clean"),
+        End::Short(held) => println!(out; "the stream ends short, with {held} bytes held"),
+        End::Refused(refusal) => {
+            let code = refusal.number();
+            println!(out; "the stream is refused with {code}")
         }
-        End::Refused(code) => {
-            print(out, b"the stream is refused with ");
-            print_number(out, code as u64);
-            print(out, b"\n");
-        }
-    }
+    };
 }
 
 // As many as can wait, and the one that is refused.
@@ -30,28 +24,24 @@ const TAKES: usize = 65;
 // Takes the jobs, the one that is due first before the others, and answers each. The last take is refused, and says why.
 pub(crate) fn answer_all(out: Stdout, q: Queue) {
     let mut waiting = q;
-    let mut error = 0;
     for _ in 0..TAKES {
         let removed = queue::take(waiting);
-        error = removed.error;
-        if error != 0 {
-            break;
+        match removed.job {
+            Ok(job) => answer(out, job),
+            Err(refusal) => return print_last(out, refusal),
         }
-        answer(out, removed.job);
         waiting = removed.queue;
     }
-    print_last(out, error);
 }
 
 // What the last take said: nothing waits, or the queue is not valid.
-fn print_last(out: Stdout, error: u32) {
-    if error == refusals::QUEUE_EMPTY {
-        print(out, b"nothing waits\n");
-        return;
-    }
-    print(out, b"the queue is refused with ");
-    print_number(out, error as u64);
-    print(out, b"\n");
+fn print_last(out: Stdout, refusal: Refusal) {
+    let _ = if refusal == Refusal::QueueEmpty {
+        println!(out; "nothing waits")
+    } else {
+        let number = refusal.number();
+        println!(out; "the queue is refused with {number}")
+    };
 }
 
 // Writes the response to a job under the ceiling of the job's line, and prints its bytes.
@@ -75,12 +65,13 @@ fn answer(out: Stdout, job: Job) {
     let mut frame = [0u8; 64];
     let rows = [0; 4];
     let written = writer::write(response, b"", &rows, b"done", &mut frame, line.ceiling);
-    print(out, b"request ");
-    print_number(out, job.request as u64);
-    print(out, b" is due first; its response:");
+    let request = job.request;
+    let _ = print!(out; "request {request} is due first; its response:");
     match written {
-        Encoded::Frame(size) => print_bytes(out, part(&frame, 0, size)),
-        Encoded::Refused(_) => print(out, b" none"),
+        Ok(size) => print_bytes(out, part(&frame, 0, size)),
+        Err(_) => {
+            let _ = print!(out; " none");
+        }
     }
-    print(out, b"\n");
+    let _ = println!(out);
 }

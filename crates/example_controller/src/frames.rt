@@ -1,11 +1,11 @@
 // Frames that a stream is made of, written one after the other.
 use records::Record;
-use writer::Encoded;
 
 // The protocol version that the fixed headers name. Every version is read.
 pub(crate) const VERSION: u8 = 1;
 
 // Writes a frame after those in the output, under a ceiling, and returns the place after it.
+// No Option, here and in `copy_to`: what has no room is left out, and every caller goes on from the place.
 pub(crate) fn write_frame(
     record: Record,
     source: &[u8],
@@ -21,16 +21,12 @@ pub(crate) fn write_frame(
     let room = out.len() - at;
     let written = writer::write(record, source, rows, body, &mut out[at..], ceiling);
     match written {
-        Encoded::Frame(size) => { if size <= room { at + size } else { at } }
-        Encoded::Refused(_) => at,
+        Ok(size) => { if size <= room { at + size } else { at } }
+        Err(_) => at,
     }
 }
 
 // Bytes as they are.
 pub(crate) fn copy_to(bytes: &[u8], out: &mut [u8], at: usize) -> usize {
-    let written = wire_write::write_raw(bytes, out, at);
-    match written {
-        wire_write::Written::Next(next) => next,
-        wire_write::Written::Refused(_) => at,
-    }
+    wire_write::write_raw(bytes, out, at).unwrap_or(at)
 }

@@ -127,59 +127,18 @@ fn receive_piece(
     now: u64,
 ) -> Controller {
     let mut c = controller;
-    let ceiling = controller.line.ceiling;
-    let mut from = 0;
+    let mut rest = piece;
     for _ in 0..piece.len() {
-        if piece.len() <= from {
+        if rest.is_empty() {
             break;
         }
-        let step = deframer::deframe(c.deframer, buffer, ceiling, part(piece, from, piece.len()));
-        let progress = step.progress;
-        let next = step.next;
-        from = after(from, step.taken, piece.len());
-        c = received(out, c, next, progress, buffer, rows, now);
+        let step = deframer::deframe(c.deframer, buffer, c.line.ceiling, rest);
+        rest = rest.get(step.taken..).unwrap_or(&[]);
+        c.deframer = step.next;
+        // A whole frame may be a request.
+        if let Progress::Frame(size) = step.progress {
+            c.queue = requests::accept(out, c.queue, c.line, part(buffer, 0, size), rows, now);
+        }
     }
     c
-}
-
-// The place after what was taken.
-fn after(from: usize, taken: usize, end: usize) -> usize {
-    if end < from {
-        return end;
-    }
-    if end - from < taken {
-        return end;
-    }
-    from + taken
-}
-
-// A whole frame may be a request.
-fn received(
-    out: Stdout,
-    controller: Controller,
-    deframer: Deframer,
-    progress: Progress,
-    buffer: &[u8],
-    rows: &mut [u32],
-    now: u64,
-) -> Controller {
-    let line = controller.line;
-    let q = controller.queue;
-    match progress {
-        Progress::Frame(size) => Controller {
-            line,
-            deframer,
-            queue: requests::accept(out, q, line, part(buffer, 0, size), rows, now),
-        },
-        Progress::NeedMore => Controller {
-            line,
-            deframer,
-            queue: q,
-        },
-        Progress::Refused(_) => Controller {
-            line,
-            deframer,
-            queue: q,
-        },
-    }
 }

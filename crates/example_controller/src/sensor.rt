@@ -4,7 +4,6 @@ ghost use Rattle.std.specs.Prelude.{◌≤◌};
 
 use crate::frames::{VERSION, copy_to, write_frame};
 use crate::lines::SENSOR;
-use crate::print::{print, print_number};
 use records::{Data, Record};
 use std::io::Stdout;
 
@@ -37,22 +36,15 @@ pub(crate) fn write_stream(out: &mut [u8]) -> usize {
 }
 
 pub(crate) fn print_ceiling(out: Stdout) {
-    print(out, b"the sensor's line has a ceiling of ");
-    print_number(out, SENSOR.ceiling as u64);
-    print(out, b" bytes\n");
+    let ceiling = SENSOR.ceiling;
+    let _ = println!(out; "the sensor's line has a ceiling of {ceiling} bytes");
 }
 
 // Reports each byte after the buffer that has changed.
 pub(crate) fn print_changes(out: Stdout, guard: &[u8]) {
-    for i in 0..guard.len() {
-        if guard[i] != GUARD {
-            print_change(out, i);
+    for (i, &byte) in guard.iter().enumerate() {
+        if byte != GUARD {
+            let _ = println!(out; "byte {i} after the buffer was changed");
         }
     }
-}
-
-fn print_change(out: Stdout, i: usize) {
-    print(out, b"byte ");
-    print_number(out, i as u64);
-    print(out, b" after the buffer was changed\n");
 }

@@ -21,3 +21,6 @@ parse_header M 𝓤 𝓛 mem run κs a = (tt, refl)
 
 pub put_header : AsksNothing entry.put_header.signature (λ M 𝓤. entry.put_header.spec)
 put_header M 𝓤 𝓛 mem run κs a = (tt, refl)
+
+pub frame_type_stream_type : AsksNothing entry.FrameType.stream_type.signature (λ M 𝓤. entry.FrameType.stream_type.spec)
+frame_type_stream_type M 𝓤 𝓛 mem run κs a = (tt, refl)

@@ -1,5 +1,4 @@
 -- Laws of the codes, and the round trip of the 16 bytes
-pub mod Digits
 pub mod Codes
 pub mod RoundTrip
 pub mod Ceilings

@@ -19,7 +19,7 @@ use Rattle.fixed_header.specs.Put.{data_type_of, stream_type_of, fixed_header, K
 use Rattle.fixed_header.specs.declared.FixedHeader.{FixedHeader}
 use Rattle.fixed_header.specs.declared.FrameType.{FrameType}
 use Rattle.fixed_header.specs.declared.FrameType.TheVariants.{Unary, Init, Data, Feedback, Close}
-use Rattle.fixed_header.specs.declared.Parsed.TheVariants.{Good}
+use Rattle.std.specs.Prelude.{Ok}
 use Rattle.laws.proofs.Booleans.{both, passes}
 use Rattle.fixed_header.proofs.Codes.{sixteen}
 
@@ -100,7 +100,7 @@ module _ (c : ℕ) (h : FixedHeader) (k : Keeps c h) where
       (rw (total_is, size_is) k.size_good) refl)))
 
   -- ---- the theorem
-  pub header_back : parsed c (fixed_header h) ≡ Good h
+  pub header_back : parsed c (fixed_header h) ≡ Ok h
   unfolding parsed fixed_header version_of
   header_back =
       rw (eq-eqb _ _ header_good, total_back [], size_back [], id_back [], version_back [], type_back h.frame_type)

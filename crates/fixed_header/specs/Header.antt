@@ -1,11 +1,9 @@
 -- Document 01, "The 16 bytes": what a fixed header says, and the error code (document 01: refusal number) of a bad one
-use Rattle.std.specs.Prelude.{ℕ, ◌+◌, ◌-◌, ◌*◌, ◌%◌, ◌<◌, ◌≤◌, ◌⊎◌, List, Bool, cond, ◌&&◌, ◌||◌, eqb, ltb, leb, length, take, get_or}
+use Rattle.std.specs.Prelude.{ℕ, ◌+◌, ◌-◌, ◌*◌, ◌%◌, ◌<◌, ◌≤◌, ◌⊎◌, List, Bool, cond, Result, Ok, Err, ◌&&◌, ◌||◌, eqb, ltb, leb, length, take, get_or}
 use Rattle.laws.specs.Chains.{unless}
 use Rattle.fixed_header.specs.declared.FixedHeader.{FixedHeader}
 use Rattle.fixed_header.specs.declared.FrameType.{FrameType}
 use Rattle.fixed_header.specs.declared.FrameType.TheVariants.{Unary, Init, Data, Feedback, Close}
-use Rattle.fixed_header.specs.declared.Parsed.{Parsed}
-use Rattle.fixed_header.specs.declared.Parsed.TheVariants.{Good, Refused}
 
 -- Document 01's "16 to 65,536": the largest ceiling
 abbrev pub max_frame : ℕ
@@ -107,8 +105,8 @@ header_in h =
     }
 
 -- what a good header says, and of a bad one its error code
-unfoldable pub parsed : (c : ℕ) → List ℕ → Parsed
-parsed c h = cond (eqb (header_error c h) 0) (Good (header_in h)) (Refused (header_error c h))
+unfoldable pub parsed : (c : ℕ) → List ℕ → Result FixedHeader ℕ
+parsed c h = cond (eqb (header_error c h) 0) (Ok (header_in h)) (Err (header_error c h))
 
 -- the total size that the first 16 bytes declare, 0 where there are fewer
 unfoldable pub declared_size : List ℕ → ℕ

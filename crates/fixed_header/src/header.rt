@@ -1,31 +1,18 @@
 // The fields of the fixed header, and the rule of each.
 ghost use Rattle.std.specs.Prelude.{◌≡◌, ◌+◌, ◌%◌, ◌^◌, ◌≤◌, ◌<◌, ◌&&◌, eqb, length};
-ghost use Rattle.fixed_header.specs.Header.{be16_of, be32_of, total_of, header_size_of, type_of, header_in};
+ghost use Rattle.fixed_header.specs.Header.{be32_of, total_of, header_size_of, header_in};
+ghost use Rattle.refusals.specs.Refusals.{code_of};
 ghost use Rattle.fixed_header.specs.Header.{magic_ok, stream_type_ok, total_ok, header_size_ok, type_fault, size_fault, fault_of};
 
 use crate::{FixedHeader, FrameType, HEADER};
-use refusals::{BAD_DATA_TYPE, BAD_HEADER_SIZE, BAD_MAGIC, BAD_STREAM_TYPE, BAD_TOTAL};
-
-fn wide(b: u8) -> u32
-    ensures { (result ≡ b) × (result < 256) }
-{
-    b as u32
-}
-
-// The two bytes at a place, as a big-endian number.
-fn be16(h: &[u8], at: usize) -> u32
-    requires { at + 2 ≤ length h.now }
-    ensures { (result ≡ be16_of h.now at) × (result < 65536) }
-{
-    wide(h[at]) * 256 + wide(h[at + 1])
-}
+use refusals::Refusal;
 
 // The four bytes at a place, as a big-endian number.
 fn be32(h: &[u8], at: usize) -> u32
     requires { at + 4 ≤ length h.now }
     ensures { result ≡ be32_of h.now at }
 {
-    be16(h, at) * 65536 + be16(h, at + 2)
+    u32::from_be_bytes([h[at], h[at + 1], h[at + 2], h[at + 3]])
 }
 
 pub(crate) fn total(h: &[u8]) -> usize
@@ -39,42 +26,21 @@ fn header_size(h: &[u8]) -> usize
     requires { 16 ≤ length h.now }
     ensures { (result ≡ header_size_of h.now) × (result < 65536) }
 {
-    be16(h, 8) as usize
+    u16::from_be_bytes([h[8], h[9]]) as usize
 }
 
-fn frame_type(data_type: u8, stream_type: u8) -> FrameType
-    ensures { result ≡ type_of data_type stream_type }
-{
-    if data_type == 0 {
-        return FrameType::Unary;
-    }
-    if stream_type == 1 {
-        return FrameType::Init;
-    }
-    if stream_type == 2 {
-        return FrameType::Data;
-    }
-    if stream_type == 3 {
-        return FrameType::Feedback;
-    }
-    FrameType::Close
-}
-
-// Both bytes in one comparison, the low one first.
+// Both bytes in one comparison.
 fn magic_ok(first: u8, second: u8) -> bool
     ensures { result ≡ magic_ok first second }
 {
-    wide(first) + wide(second) * 256 == 0x3009
+    u16::from_be_bytes([first, second]) == 0x0930
 }
 
 // The stream type of a stream frame.
 fn stream_type_ok(stream_type: u8) -> bool
     ensures { result ≡ stream_type_ok 1 stream_type }
 {
-    if stream_type < 1 {
-        return false;
-    }
-    stream_type <= 4
+    1 <= stream_type && stream_type <= 4
 }
 
 // What a total leaves after the 16 bytes. One under 16 wraps to more than any ceiling leaves, so that one comparison looks at both ends of
@@ -82,7 +48,7 @@ fn stream_type_ok(stream_type: u8) -> bool
 fn content_size(total: u32) -> usize
     ensures { (result < 2 ^ 32) × ((result + 16) % 2 ^ 32 ≡ total) }
 {
-    (total as usize + 4294967280) % 4294967296
+    total.wrapping_sub(16) as usize
 }
 
 fn total_ok(content: usize, ceiling: u32) -> bool
@@ -99,50 +65,47 @@ fn header_size_ok(data_type: u8, content: usize, size: usize) -> bool
     size <= most
 }
 
-// 3, 4 or 5: the first rule of the magic and the types that is broken, 0 for none. In unary the stream type is ignored.
-fn type_fault(first: u8, second: u8, data_type: u8, stream_type: u8) -> u32
-    ensures { result ≡ type_fault first second data_type stream_type 0 }
+// 3, 4 or 5: the first rule of the magic and the types that is broken. In unary the stream type is ignored.
+fn check_types(first: u8, second: u8, data_type: u8, stream_type: u8) -> Result<(), Refusal>
+    ensures { code_of result ≡ type_fault first second data_type stream_type 0 }
 {
     if !magic_ok(first, second) {
-        return BAD_MAGIC;
+        return Err(Refusal::BadMagic);
     }
     if data_type == 0 {
-        return 0;
+        return Ok(());
     }
     if 1 < data_type {
-        return BAD_DATA_TYPE;
+        return Err(Refusal::BadDataType);
     }
     if !stream_type_ok(stream_type) {
-        return BAD_STREAM_TYPE;
+        return Err(Refusal::BadStreamType);
     }
-    0
+    Ok(())
 }
 
-// 6 or 7: the first rule of the sizes that is broken, 0 for none.
-fn size_fault(data_type: u8, total: u32, size: usize, ceiling: u32) -> u32
+// 6 or 7: the first rule of the sizes that is broken.
+fn check_sizes(data_type: u8, total: u32, size: usize, ceiling: u32) -> Result<(), Refusal>
     requires { 16 ≤ ceiling }
-    ensures { result ≡ size_fault ceiling data_type total size }
+    ensures { code_of result ≡ size_fault ceiling data_type total size }
 {
     let content = content_size(total);
     if !total_ok(content, ceiling) {
-        return BAD_TOTAL;
+        return Err(Refusal::BadTotal);
     }
     if !header_size_ok(data_type, content, size) {
-        return BAD_HEADER_SIZE;
+        return Err(Refusal::BadHeaderSize);
     }
-    0
+    Ok(())
 }
 
-// The error code of the first rule that 16 bytes break, 0 where they break none.
-pub(crate) fn fault(h: &[u8], ceiling: u32) -> u32
+// Refuses 16 bytes for the first rule that they break.
+pub(crate) fn check(h: &[u8], ceiling: u32) -> Result<(), Refusal>
     requires { (16 ≤ length h.now) × (16 ≤ ceiling) }
-    ensures { result ≡ fault_of ceiling h.now }
+    ensures { code_of result ≡ fault_of ceiling h.now }
 {
-    let types = type_fault(h[0], h[1], h[2], h[3]);
-    if types != 0 {
-        return types;
-    }
-    size_fault(h[2], be32(h, 4), header_size(h), ceiling)
+    check_types(h[0], h[1], h[2], h[3])?;
+    check_sizes(h[2], be32(h, 4), header_size(h), ceiling)
 }
 
 // Whether both rules of the sizes are kept: a total that holds the header message is no less than 16.
@@ -167,7 +130,7 @@ pub(crate) fn good(h: &[u8], ceiling: u32) -> bool
     requires { 16 ≤ length h.now }
     ensures { result ≡ eqb (fault_of ceiling h.now) 0 }
 {
-    if type_fault(h[0], h[1], h[2], h[3]) != 0 {
+    if check_types(h[0], h[1], h[2], h[3]).is_err() {
         return false;
     }
     sizes_ok(h[2], total(h), header_size(h), ceiling)
@@ -186,7 +149,7 @@ pub(crate) fn header_in(h: &[u8]) -> FixedHeader
     ensures { result ≡ header_in h.now }
 {
     FixedHeader {
-        frame_type: frame_type(h[2], h[3]),
+        frame_type: FrameType::of_types(h[2], h[3]),
         total: total(h),
         header_size: header_size(h),
         id: be32(h, 10),

@@ -4,9 +4,8 @@ use Rattle.deframer.specs.Deframe.{ended}
 use Rattle.deframer.specs.declared.Deframer.{Deframer}
 use Rattle.fixed_header.specs.Header.{max_frame}
 use Rattle.fixed_header.specs.declared.FixedHeader.{FixedHeader}
-use Rattle.fixed_header.specs.declared.Parsed.{Parsed}
-use Rattle.fixed_header.specs.declared.Parsed.TheVariants.{Good, Refused}
-use Rattle.deframer.specs.declared.Progress.{Progress}
+use Rattle.std.specs.Prelude.{Result, Ok, Err}
+use Rattle.deframer.specs.Progress.{Progress}
 use Rattle.text.specs.Added.{with_text, Adds}
 use Rattle.listing.specs.Lines.{frame_line, end_line}
 use Rattle.listing.specs.Steps.{next_number, kept, Lists, ListsFrame, ListsStep}
@@ -24,7 +23,7 @@ lists : (line : List ℕ) (before : Listing) (text : List ℕ) (ready listed : L
     → Lists line before text listed after
 lists line before text ready listed after room e a = with_line room a ∙ ap (λ (n : ℕ). take n text ++ line) e
 
-pub lists_frame : (p : Parsed) (h : FixedHeader) (before : Listing) (text : List ℕ) (ready listed : Listing) (after : List ℕ) → p ≡ Good h
+pub lists_frame : (p : Result FixedHeader ℕ) (h : FixedHeader) (before : Listing) (text : List ℕ) (ready listed : Listing) (after : List ℕ) → p ≡ Ok h
     → ready.pending ≤ length text → ready.frames ≡ before.frames → ready.deframer ≡ before.deframer
     → ready.pending ≡ kept before text
     → listed.frames ≡ next_number ready → listed.deframer ≡ ready.deframer
@@ -32,15 +31,15 @@ pub lists_frame : (p : Parsed) (h : FixedHeader) (before : Listing) (text : List
     → ListsFrame p before text listed after
 lists_frame p h before text ready listed after good room frames deframer came number same a =
     let next : next_number ready ≡ next_number before = rw frames in
-    subst (λ (q : Parsed). ListsFrame q before text listed after) (sym good) (
+    subst (λ (q : Result FixedHeader ℕ). ListsFrame q before text listed after) (sym good) (
       number ∙ next,
       same ∙ deframer,
       lists (frame_line (next_number before) h) before text ready listed after room came
           (subst (λ (n : ℕ). Adds (frame_line n h) text ready.pending after listed.pending) next a),
     )
 
-pub lists_none : (p : Parsed) (code : ℕ) (listing : Listing) (text : List ℕ) → p ≡ Refused code → ListsFrame p listing text listing text
-lists_none p code listing text e = subst (λ (q : Parsed). ListsFrame q listing text listing text) (sym e) (refl, refl)
+pub lists_none : (p : Result FixedHeader ℕ) (code : ℕ) (listing : Listing) (text : List ℕ) → p ≡ Err code → ListsFrame p listing text listing text
+lists_none p code listing text e = subst (λ (q : Result FixedHeader ℕ). ListsFrame q listing text listing text) (sym e) (refl, refl)
 
 pub lists_end : (buffer : List ℕ) (before : Listing) (text : List ℕ) (ready : Listing) (after : List ℕ) (next : ℕ)
     → ready.deframer ≡ before.deframer → ready.pending ≡ kept before text

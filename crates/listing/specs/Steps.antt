@@ -1,13 +1,12 @@
 -- What a step of the listing adds to the text, and what its functions ask of their buffers
-use Rattle.std.specs.Prelude.{◌≡◌, ℕ, ◌+◌, ◌%◌, ◌^◌, ◌≤◌, true, false, cond, ◌⊎◌, List, ◌++◌, length, take, drop, nat_le}
+use Rattle.std.specs.Prelude.{◌≡◌, ℕ, ◌+◌, ◌%◌, ◌^◌, ◌≤◌, true, false, cond, ◌⊎◌, List, ◌++◌, Result, Ok, Err, length, take, drop, nat_le}
 use Rattle.fixed_header.specs.Header.{max_frame, parsed}
 use Rattle.deframer.specs.Deframe.{fresh, deframed, ended}
 use Rattle.deframer.specs.declared.Deframer.{Deframer}
-use Rattle.fixed_header.specs.declared.Parsed.{Parsed}
-use Rattle.fixed_header.specs.declared.Parsed.TheVariants as header
-use Rattle.deframer.specs.declared.Step.{Step}
-use Rattle.deframer.specs.declared.Progress.{Progress}
-use Rattle.deframer.specs.declared.Progress.TheVariants as progress
+use Rattle.fixed_header.specs.declared.FixedHeader.{FixedHeader}
+use Rattle.deframer.specs.Step.{Step}
+use Rattle.deframer.specs.Progress.{Progress}
+use Rattle.deframer.specs.Progress as progress
 use Rattle.text.specs.Added.{with_text}
 use Rattle.listing.specs.Lines.{frame_line, end_line, max_line}
 use Rattle.listing.specs.declared.Listing.{Listing}
@@ -42,12 +41,12 @@ abbrev pub Lists : (line : List ℕ) → (before : Listing) → (text : List ℕ
 Lists line before text listed after = unprinted listed after ≡ take (kept before text) text ++ line
 
 -- "prints frame number, kind, id and total per line": of a frame with this header, which the deframer found good
-abbrev pub ListsFrame : Parsed → (before : Listing) → (text : List ℕ) → Listing → (after : List ℕ) → Type 0
-ListsFrame (header.Good h) before text listed after =
+abbrev pub ListsFrame : Result FixedHeader ℕ → (before : Listing) → (text : List ℕ) → Listing → (after : List ℕ) → Type 0
+ListsFrame (Ok h) before text listed after =
     (listed.frames ≡ next_number before)
     × (listed.deframer ≡ before.deframer)
     × Lists (frame_line (next_number before) h) before text listed after
-ListsFrame (header.Refused code) before text listed after = (listed ≡ before) × (after ≡ text)
+ListsFrame (Err code) before text listed after = (listed ≡ before) × (after ≡ text)
 
 -- "then one end line": it is put after what is still to be printed, and then all of it is printed
 abbrev pub ListsEnd : (buffer : List ℕ) → (before : Listing) → (text : List ℕ) → Listing → (after : List ℕ) → Type 0

@@ -13,13 +13,15 @@ ghost use Rattle.std.specs.Prelude.{◌≡◌, ◌+◌, ◌<◌, ◌≤◌, true
 ghost use Rattle.fixed_header.specs.Header.{parsed, max_frame};
 ghost use Rattle.deframer.specs.Deframe.{deframed, ended};
 ghost use Rattle.deframer.specs.Deframe.{is_refused};
+ghost use Rattle.deframer.specs.InNumbers.{progress_in_numbers, step_in_numbers};
 ghost use Rattle.text.specs.Added.{Adds};
 ghost use Rattle.listing.specs.Lines.{frame_line, end_line, max_line};
 ghost use Rattle.listing.specs.Steps.{Text, start, with_deframer, next_number, kept, ListsFrame, ListsEnd, ListsStep, ListsPiece};
 ghost use Rattle.listing.specs.Reads.{Printed, ListsNext, ListsInput};
 
 use deframer::{Deframer, Progress, Step};
-use fixed_header::{FixedHeader, Parsed};
+use fixed_header::FixedHeader;
+use lines::{LINE, end_line, frame_line};
 use std::io;
 use std::io::Read;
 use std::process::ExitCode;
@@ -30,6 +32,7 @@ const CEILING: u32 = 65536;
 
 // What is kept from piece to piece: the deframer's state, how many frames were listed, how many bytes of the text are not
 // printed yet, and whether the program is done.
+// `done` is a flag: where a write failed, the end line is still added to the text of a listing that is done.
 #[derive(Clone, Copy)]
 struct Listing {
     deframer: Deframer,
@@ -142,9 +145,9 @@ fn list_piece(
 // Hands the rest of the piece to the deframer, which takes at least a byte of it unless it refuses a header.
 fn deframe_rest(deframer: Deframer, buffer: &mut [u8], piece: &[u8], from: usize) -> Step
     requires { from < length piece.now }
-    ensures value { result ≡ (deframed max_frame deframer buffer.old (drop from piece.now)).step }
+    ensures value { step_in_numbers result ≡ (deframed max_frame deframer buffer.old (drop from piece.now)).step }
     ensures buffer_after { buffer.new ≡ (deframed max_frame deframer buffer.old (drop from piece.now)).buffer }
-    ensures taken_in_bounds { (from + result.taken ≤ length piece.now) × (is_refused result.progress ≡ false → 0 < result.taken) }
+    ensures taken_in_bounds { (from + result.taken ≤ length piece.now) × (is_refused (progress_in_numbers result.progress) ≡ false → 0 < result.taken) }
 {
     deframer::deframe(deframer, buffer, CEILING, &piece[from..])
 }
@@ -158,8 +161,8 @@ fn list_step(
     text: &mut [u8],
 ) -> Listing
     requires { (max_frame ≤ length buffer.now) × Text listing.pending text.old }
-    ensures { (result.pending ≤ length text.old) × (result.done ≡ false → is_refused step.progress ≡ false)
-        × ListsStep step.progress buffer.now (with_deframer listing step.next) text.old result text.new }
+    ensures { (result.pending ≤ length text.old) × (result.done ≡ false → is_refused (progress_in_numbers step.progress) ≡ false)
+        × ListsStep (progress_in_numbers step.progress) buffer.now (with_deframer listing step.next) text.old result text.new }
 {
     let next = step.next;
     let progress = step.progress;
@@ -182,8 +185,7 @@ fn list_frame(streams: &mut Streams, listing: Listing, buffer: &[u8], text: &mut
     ensures { (result.pending ≤ length text.old)
         × ListsFrame (parsed max_frame (take 16 buffer.now)) listing text.old result text.new }
 {
-    let Parsed::Good(header) = fixed_header::parse_header(&buffer[..fixed_header::HEADER], CEILING)
-    else {
+    let Ok(header) = fixed_header::parse_header(&buffer[..fixed_header::HEADER], CEILING) else {
         return listing;
     };
     add_frame(with_room(streams, listing, text), header, text)
@@ -197,7 +199,12 @@ fn add_frame(listing: Listing, header: FixedHeader, text: &mut [u8]) -> Listing
 {
     let mut listed = listing;
     listed.frames = std::num::wrapping_add_u64(listed.frames, 1);
-    listed.pending = lines::frame_line(text, listed.pending, listed.frames, header);
+    let mut lines = text::Text {
+        bytes: text,
+        len: Some(listing.pending),
+    };
+    frame_line(&mut lines, listed.frames, header);
+    listed.pending = lines.len.unwrap();
     listed
 }
 
@@ -219,7 +226,12 @@ fn add_end(listing: Listing, buffer: &[u8], text: &mut [u8]) -> Listing
 {
     let mut listed = listing;
     let end = deframer::finish(listed.deframer, buffer, CEILING);
-    listed.pending = lines::end_line(text, listed.pending, end);
+    let mut lines = text::Text {
+        bytes: text,
+        len: Some(listing.pending),
+    };
+    end_line(&mut lines, end);
+    listed.pending = lines.len.unwrap();
     listed
 }
 
@@ -229,7 +241,7 @@ fn with_room(streams: &mut Streams, listing: Listing, text: &[u8]) -> Listing
     ensures { (result.pending + max_line ≤ length text.now) × (result.frames ≡ listing.frames) × (result.deframer ≡ listing.deframer)
         × (result.pending ≡ kept listing text.now) }
 {
-    if lines::LINE <= text.len() - listing.pending {
+    if LINE <= text.len() - listing.pending {
         return listing;
     }
     print(streams, listing, text)

@@ -3,6 +3,7 @@ use std::alloc::{AllocError, Global};
 use std::io;
 use std::io::{ErrorKind, Stderr, Stdin, Stdout};
 
+// `failed` is a flag: the error is said where it comes, and only the status at the end is left to tell.
 #[derive(Drop)]
 pub(crate) struct Streams {
     pub(crate) stdin: Stdin,

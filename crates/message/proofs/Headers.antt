@@ -11,7 +11,7 @@ use lib.Seq.{get_or-take}
 use Rattle.fixed_header.specs.Header.{ceiling_ok, be16_of, be32_of, total_of, header_size_of, id_of, version_of, magic_ok, data_type_ok}
 use Rattle.fixed_header.specs.Header.{stream_type_ok, total_ok, header_size_ok, fault_of, header_error, type_of, parsed}
 use Rattle.fixed_header.specs.declared.FixedHeader.{FixedHeader}
-use Rattle.fixed_header.specs.declared.Parsed.TheVariants.{Good, Refused}
+use Rattle.std.specs.Prelude.{Ok, Err}
 use Rattle.laws.proofs.Booleans.{kept}
 use Rattle.fixed_header.proofs.Codes.{good_total}
 
@@ -82,11 +82,11 @@ told f =
     }
 
 module _ (c : ℕ) where
-  pub parsed_good : (f : List ℕ) (x : FixedHeader) → Good x ≡ parsed c (take 16 f) → Says c f x
+  pub parsed_good : (f : List ℕ) (x : FixedHeader) → Ok x ≡ parsed c (take 16 f) → Says c f x
   unfolding parsed
   parsed_good f x e = go (eqb (header_error c (take 16 f)) 0) refl e
     where
-      go : (b : Bool) → eqb (header_error c (take 16 f)) 0 ≡ b → Good x ≡ cond b (Good (told f)) (Refused (header_error c (take 16 f)))
+      go : (b : Bool) → eqb (header_error c (take 16 f)) 0 ≡ b → Ok x ≡ cond b (Ok (told f)) (Err (header_error c (take 16 f)))
           → Says c f x
       go true t g =
           let same : x ≡ told f = cc in
@@ -99,12 +99,12 @@ module _ (c : ℕ) where
           }
       go false t g = let z : ◌≡◌ {A = ℕ} 0 1 = cc in absurd (omega arith)
 
-  pub parsed_refused : (f : List ℕ) (code : ℕ) → Refused code ≡ parsed c (take 16 f)
+  pub parsed_refused : (f : List ℕ) (code : ℕ) → Err code ≡ parsed c (take 16 f)
       → (header_error c (take 16 f) ≡ 0 → ⊥) × (code ≡ header_error c (take 16 f))
   unfolding parsed
   parsed_refused f code e = go (eqb (header_error c (take 16 f)) 0) refl e
     where
-      go : (b : Bool) → eqb (header_error c (take 16 f)) 0 ≡ b → Refused code ≡ cond b (Good (told f)) (Refused (header_error c (take 16 f)))
+      go : (b : Bool) → eqb (header_error c (take 16 f)) 0 ≡ b → Err code ≡ cond b (Ok (told f)) (Err (header_error c (take 16 f)))
           → (header_error c (take 16 f) ≡ 0 → ⊥) × (code ≡ header_error c (take 16 f))
       go true t g = let z : ◌≡◌ {A = ℕ} 0 1 = cc in absurd (omega arith)
       go false t g = (eqb-false _ _ t, cc)

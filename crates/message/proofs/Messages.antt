@@ -12,59 +12,45 @@ use Rattle.schema.specs.Schema.{schema_at}
 use Rattle.decoder.specs.Rows.{Row, row_numbers, laid_out, rows_cleared}
 use Rattle.decoder.specs.Fields.{State, Result, ok, refused, read_message}
 use Rattle.decoder.specs.Decoding.{decoded}
-use Rattle.decoder.specs.declared.Decoded.{Decoded}
+use Rattle.decoder.specs.declared.Slots.{Slots}
+use Rattle.refusals.specs.Refusals.{number}
+use Rattle.refusals.specs.declared.Refusal.{Refusal}
+use Rattle.std.specs.Prelude as std
 use Rattle.decoder.proofs.RowLaws.{drop_laid, length_laid}
 use Rattle.decoder.proofs.Answers.{Gives, Read, Decodes, decodes, all_cleared}
 use Rattle.schema.specs.Kinds.{schema_of, schema_number}
 use Rattle.schema.proofs.KindLaws.{numbered}
 use Rattle.records.specs.Records.{record_of, attachment_size_of}
-use Rattle.message.specs.Frames.{Reading, header_of, body_of, last_bytes, refused_untouched, with_attachment, answered, read_frame}
+use Rattle.message.specs.Frames.{header_of, body_of, last_bytes, refused_untouched, with_attachment, answered, read_frame}
 use Rattle.message.specs.Spans.{span_from}
-use Rattle.message.specs.Parts.{PartsOf, no_parts, body_at, Whole}
+use Rattle.message.specs.Parts.{ReadParts, body_at, Whole}
 use Rattle.schema.specs.declared.Kind.{Kind}
-use Rattle.message.specs.declared.Answer.TheVariants as answers
 use Rattle.records.specs.declared.Record.{Record}
-use Rattle.message.specs.declared.frames.Parts.{Parts}
 use Rattle.message.proofs.Readings.{its_message}
 use Rattle.message.proofs.PartPlaces.{frame_size, within, length_last, header_part, body_rest}
 
--- ---- a refusal
-none : (code size : ℕ) (numbers : List ℕ) → PartsOf (refused_untouched code numbers) size (no_parts code) numbers
-none code size numbers =
-    record {
-      answer_is = refl;
-      rows_are = refl;
-      small = omega arith;
-      header_at = refl;
-      body_at_is = refl;
-      attachment_at = refl;
-    }
-
-pub refusal : {x : Reading} {size : ℕ} {numbers : List ℕ} {p : Parts} {code : ℕ} → x ≡ refused_untouched code numbers → p ≡ no_parts code
-    → PartsOf x size p numbers
-refusal {size} {numbers} {p} {code} e g =
-    subst (λ (x : Reading). PartsOf x size p numbers) (sym e)
-    (subst (λ (p : Parts). PartsOf (refused_untouched code numbers) size p numbers) (sym g) (none code size numbers))
-
 -- ---- what the decoder's answer says of the reading x of a message
-abbrev error_of_lem : Decoded → ℕ
-error_of_lem d = d.error
+abbrev values_of : Slots → List ℕ
+values_of s = s.values
 
-abbrev values_of : Decoded → List ℕ
-values_of d = d.slots.values
+abbrev rows_of : Slots → ℕ
+rows_of s = s.rows
 
-abbrev rows_of : Decoded → ℕ
-rows_of d = d.slots.rows
+failed : (x : Result) (d : std.Result Slots Refusal) (numbers lent : List ℕ) → Decodes x d numbers lent → (refusal : Refusal)
+    → d ≡ std.Err refusal → (x ≡ refused (number refusal)) × (numbers ≡ laid_out [] lent)
+failed x d numbers lent r refusal e = by x (subst (λ (y : std.Result Slots Refusal). Decodes x y numbers lent) e r)
+  where
+    by : (x : Result) → Decodes x (std.Err refusal) numbers lent → (x ≡ refused (number refusal)) × (numbers ≡ laid_out [] lent)
+    by (ok st) r = absurd r
+    by (refused code) r = (ap refused (sym r.number_is), r.laid)
 
-failed : (x : Result) (d : Decoded) (numbers lent : List ℕ) → Decodes x d numbers lent → (d.error ≡ 0 → ⊥)
-    → (x ≡ refused d.error) × (numbers ≡ laid_out [] lent)
-failed (ok st) d numbers lent r n = absurd (n (ap error_of_lem r.answer_is))
-failed (refused code) d numbers lent r n = (ap refused (sym (ap error_of_lem r.answer_is)), r.laid)
-
-succeeded : (x : Result) (d : Decoded) (numbers lent : List ℕ) → Decodes x d numbers lent → d.error ≡ 0
-    → (st : State) × (x ≡ ok st) × Read st d numbers lent
-succeeded (ok st) d numbers lent r e = (st, refl, r)
-succeeded (refused code) d numbers lent r e = absurd (omega (arith, ap error_of_lem r.answer_is, r.some_code))
+succeeded : (x : Result) (d : std.Result Slots Refusal) (numbers lent : List ℕ) → Decodes x d numbers lent → (slots : Slots)
+    → d ≡ std.Ok slots → (st : State) × (x ≡ ok st) × Read st slots numbers lent
+succeeded x d numbers lent r slots e = by x (subst (λ (y : std.Result Slots Refusal). Decodes x y numbers lent) e r)
+  where
+    by : (x : Result) → Decodes x (std.Ok slots) numbers lent → (st : State) × (x ≡ ok st) × Read st slots numbers lent
+    by (ok st) r = (st, refl, r)
+    by (refused code) r = absurd r
 
 -- rows that are cleared again
 cleared_again : (rows : List Row) (lent : List ℕ) → length rows ≤ 64 → row_numbers ≤ length lent → rows_cleared (laid_out rows lent)
@@ -77,7 +63,7 @@ cleared_again rows lent few long =
 module _ (kind : Kind) (f lent : List ℕ) (st : State) where
   attached : attachment_size_of kind st.slots ≤ length (body_of kind f)
       → answered kind f lent (ok st) ≡ record {
-        answer = answers.Read (record_of kind (id_of f) (version_of f) st.slots (length st.rows));
+        answer = std.Ok (record_of kind (id_of f) (version_of f) st.slots (length st.rows));
         header = header_of kind f;
         body = body_of kind f;
         attachment = last_bytes (attachment_size_of kind st.slots) (body_of kind f);
@@ -102,7 +88,7 @@ end_span {size} {start} {n} h e =
     rw (← e, ← g) refl
 
 -- ---- the reading of a whole frame: the code's body place, schema number, and what the decoder answered
-module _ (kind : Kind) (f lent : List ℕ) (size id version body n : ℕ) (d : Decoded) (numbers : List ℕ)
+module _ (kind : Kind) (f lent : List ℕ) (size id version body n : ℕ) (d : std.Result Slots Refusal) (numbers : List ℕ)
     (rows : row_numbers ≤ length lent) (whole : Whole kind f size id version) (body_is : body ≡ body_at kind size (length f))
     (schema-is : n ≡ schema_number kind)
     (gave : Gives (decoded f 16 body n lent) d numbers) where
@@ -136,48 +122,43 @@ module _ (kind : Kind) (f lent : List ℕ) (size id version body n : ℕ) (d : D
   unfolding result
   answer = its_message max_frame kind f lent rows whole.good whole.total_is whole.fits
 
-  pub few_decoded : d.error ≡ 0 → d.slots.rows ≤ 64
-  few_decoded e = let (st, x, r) = succeeded result d numbers lent its e in omega (arith, ap rows_of r.answer_is, r.few)
-
-  pub fields_refused : {p : Parts} → (d.error ≡ 0 → ⊥) → p ≡ no_parts d.error
-      → PartsOf (read_frame max_frame kind f lent) (length f) p numbers
+  pub fields_refused : (refusal : Refusal) → d ≡ std.Err refusal → read_frame max_frame kind f lent ≡ refused_untouched (number refusal) numbers
   unfolding answered
-  fields_refused n g =
-      let (e, zeros) = failed result d numbers lent its n in
-      refusal (answer ∙ ap (answered kind f lent) e ∙ ap (refused_untouched d.error) (sym zeros)) g
+  fields_refused r n =
+      let (e, zeros) = failed result d numbers lent its r n in
+      answer ∙ ap (answered kind f lent) e ∙ ap (refused_untouched (number r)) (sym zeros)
 
-  pub attachment_refused : {p : Parts} {a : ℕ} {last : List ℕ} → d.error ≡ 0 → a ≡ attachment_size_of kind d.slots.values
-      → length f - body < a
-      → last ≡ rows_cleared numbers → p ≡ no_parts 15 → PartsOf (read_frame max_frame kind f lent) (length f) p last
-  attachment_refused {a} e is-a large last g =
-      let (st, x, r) = succeeded result d numbers lent its e in
-      let a_is : a ≡ attachment_size_of kind st.slots = is-a ∙ ap (attachment_size_of kind) (ap values_of r.answer_is) in
-      let same = last ∙ ap rows_cleared r.laid ∙ cleared_again st.rows lent r.few rows in
-      refusal
-      (answer ∙ ap (answered kind f lent) x ∙ too_large kind f lent st (omega (arith, body_length, a_is))
-      ∙ ap (refused_untouched 15) (sym same))
-      g
+  module _ (slots : Slots) (is_read : d ≡ std.Ok slots) where
+    pub few_decoded : slots.rows ≤ 64
+    few_decoded = let (st, x, r) = succeeded result d numbers lent its slots is_read in omega (arith, ap rows_of r.slots_are, r.few)
 
-  pub message_read : {r : Record} {a : ℕ} → d.error ≡ 0 → a ≡ attachment_size_of kind d.slots.values → a ≤ length f - body
-      → r ≡ record_of kind id version d.slots.values d.slots.rows
-      → PartsOf (read_frame max_frame kind f lent) (length f)
-      (record { answer = answers.Read r; places = record { header = 16; body = body; attachment = length f - a; end = length f } })
-      numbers
-  message_read {a} e is-a fits is_r =
-      let (st, x, k) = succeeded result d numbers lent its e in
-      let a_is : a ≡ attachment_size_of kind st.slots = is-a ∙ ap (attachment_size_of kind) (ap values_of k.answer_is) in
-      let all = answer ∙ ap (answered kind f lent) x ∙ attached kind f lent st (omega (arith, body_length, a_is)) in
-      rw all (record {
-        answer_is =
-            ap answers.Read
-            (is_r ∙ same_record kind whole.id_is whole.version_is (ap values_of k.answer_is) (ap rows_of k.answer_is));
-        rows_are = k.laid;
-        small = omega (arith, bounds, frame_size kind f size id version whole);
-        header_at = ap (span_from 16) (sym header_length);
-        body_at_is = end_span bounds.1 body_length;
-        attachment_at =
-            end_span
-            (omega arith)
-            (length_last (attachment_size_of kind st.slots) (body_of kind f) (omega (arith, body_length, a_is))
-            ∙ omega (arith, a_is, bounds));
-      })
+    pub attachment_refused : {a : ℕ} {last : List ℕ} → a ≡ attachment_size_of kind slots.values → length f - body < a
+        → last ≡ rows_cleared numbers → read_frame max_frame kind f lent ≡ refused_untouched 15 last
+    attachment_refused {a} is-a large last =
+        let (st, x, r) = succeeded result d numbers lent its slots is_read in
+        let a_is : a ≡ attachment_size_of kind st.slots = is-a ∙ ap (attachment_size_of kind) (ap values_of r.slots_are) in
+        let same = last ∙ ap rows_cleared r.laid ∙ cleared_again st.rows lent r.few rows in
+        answer ∙ ap (answered kind f lent) x ∙ too_large kind f lent st (omega (arith, body_length, a_is))
+        ∙ ap (refused_untouched 15) (sym same)
+
+    pub message_read : {r : Record} {a : ℕ} → a ≡ attachment_size_of kind slots.values → a ≤ length f - body
+        → r ≡ record_of kind id version slots.values slots.rows
+        → ReadParts (read_frame max_frame kind f lent) (length f) (record { content = r; body = body; attachment = length f - a }) numbers
+    message_read {a} is-a fits is_r =
+        let (st, x, k) = succeeded result d numbers lent its slots is_read in
+        let a_is : a ≡ attachment_size_of kind st.slots = is-a ∙ ap (attachment_size_of kind) (ap values_of k.slots_are) in
+        let all = answer ∙ ap (answered kind f lent) x ∙ attached kind f lent st (omega (arith, body_length, a_is)) in
+        rw all (record {
+          answer_is =
+              ap std.Ok
+              (sym (is_r ∙ same_record kind whole.id_is whole.version_is (ap values_of k.slots_are) (ap rows_of k.slots_are)));
+          rows_are = k.laid;
+          small = omega (arith, bounds, frame_size kind f size id version whole);
+          header_at = ap (span_from 16) (sym header_length);
+          body_at_is = end_span bounds.1 body_length;
+          attachment_at =
+              end_span
+              (omega arith)
+              (length_last (attachment_size_of kind st.slots) (body_of kind f) (omega (arith, body_length, a_is))
+              ∙ omega (arith, a_is, bounds));
+        })

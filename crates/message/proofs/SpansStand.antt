@@ -17,7 +17,7 @@ use Rattle.records.specs.Records.{record_of, attachment_size_of}
 use Rattle.message.specs.Frames.{Reading, header_of, body_of, last_bytes, kind_fits}
 use Rattle.message.specs.Frames.{refused_untouched, with_attachment, answered, read_frame}
 use Rattle.message.specs.Spans.{span_from, bytes_at, spans_of}
-use Rattle.message.specs.declared.Answer.TheVariants.{Read}
+use Rattle.std.specs.Prelude.{Ok}
 use Rattle.schema.specs.declared.Kind.{Kind}
 use Rattle.schema.specs.declared.Kind.TheVariants as kinds
 
@@ -110,7 +110,7 @@ module _ (f : List ℕ) where
         either
         (leb size (length (body_of kind f)))
         (there (record {
-          answer = Read (record_of kind (id_of f) (version_of f) st.slots (length st.rows));
+          answer = Ok (record_of kind (id_of f) (version_of f) st.slots (length st.rows));
           header = header_of kind f;
           body = body_of kind f;
           attachment = last_bytes size (body_of kind f);

@@ -22,7 +22,7 @@ use Rattle.fixed_header.proofs.Ceilings.{same_under}
 use Rattle.decoder.specs.Rows.{row_numbers}
 use Rattle.schema.specs.declared.Kind.{Kind}
 use Rattle.records.specs.declared.Record.{Record}
-use Rattle.message.specs.declared.Answer.TheVariants.{Read}
+use Rattle.std.specs.Prelude.{Ok}
 use Rattle.message.specs.Frames.{Reading, kind_fits, refused_untouched, read_frame}
 use Rattle.message.proofs.Headers.{total_take, good_whole}
 
@@ -36,7 +36,7 @@ read_under c in_range kind f lent within =
 module _ (c : ℕ) (f : List ℕ) (r : Record) where
   -- its fixed header is good, and it is as long as that says
   abbrev Judged : Reading → Type 0
-  Judged x = x.answer ≡ Read r → (header_error c (take 16 f) ≡ 0) × (length f ≡ total_of f)
+  Judged x = x.answer ≡ Ok r → (header_error c (take 16 f) ≡ 0) × (length f ≡ total_of f)
 
   none : (code : ℕ) (lent : List ℕ) → Judged (refused_untouched code lent)
   none code lent e = clash cc
@@ -53,7 +53,7 @@ module _ (c : ℕ) (f : List ℕ) (r : Record) where
       (λ e. none 9 lent))
       (λ e. none (header_error c (take 16 f)) lent))))
 
-module _ (c : ℕ) (kind : Kind) (f lent : List ℕ) (r : Record) (read : (read_frame c kind f lent).answer ≡ Read r) where
+module _ (c : ℕ) (kind : Kind) (f lent : List ℕ) (r : Record) (read : (read_frame c kind f lent).answer ≡ Ok r) where
   pub read_fits : (length f ≤ c) × CeilingOk c
   read_fits =
       let (good, size) = judged c f r kind lent read in

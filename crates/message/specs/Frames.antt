@@ -1,14 +1,18 @@
 -- Document 01, "The messages": reading a frame as a named kind
-use Rattle.std.specs.Prelude.{ℕ, ◌+◌, ◌-◌, Bool, not, cond, ◌&&◌, List, [], length, take, drop, get_or, ltb, leb, eqb}
+use Rattle.std.specs.Prelude.{ℕ, ◌+◌, ◌-◌, Bool, not, cond, ◌&&◌, List, [], length, take, drop, get_or, ltb, leb, eqb, Result, Ok, Err}
 use Rattle.fixed_header.specs.Header.{ceiling_ok, header_error, total_of, header_size_of, id_of, version_of}
-use Rattle.decoder.specs.Fields.{State, Result, ok, refused, read_message}
+use Rattle.decoder.specs.Fields.{State, ok, refused, read_message}
+use Rattle.decoder.specs.Fields as fields
 use Rattle.decoder.specs.Rows.{row_numbers, laid_out}
 use Rattle.schema.specs.Kinds.{schema_of}
 use Rattle.records.specs.Records.{record_of, attachment_size_of}
 use Rattle.schema.specs.declared.Kind.{Kind}
 use Rattle.schema.specs.declared.Kind.TheVariants as kinds
-use Rattle.message.specs.declared.Answer.{Answer}
-use Rattle.message.specs.declared.Answer.TheVariants.{Read, Refused}
+use Rattle.records.specs.declared.Record.{Record}
+
+-- the record, or the error code
+abbrev pub Answer : Type 0
+Answer = Result Record ℕ
 
 -- what is handed back: the record or the error code, header, body and attachment as bytes, and the row numbers afterwards
 pub record Reading : Type 0 where
@@ -55,18 +59,18 @@ kind_fits kinds.Close d t = eqb d 1 && eqb t 4
 -- ---- reading a frame
 -- "empty if refused"; "all others leave rows untouched"
 abbrev pub refused_untouched : ℕ → List ℕ → Reading
-refused_untouched code lent = record { answer = Refused code; header = []; body = []; attachment = []; rows = lent }
+refused_untouched code lent = record { answer = Err code; header = []; body = []; attachment = []; rows = lent }
 
 -- "A reader's refusals 10 to 15 leave the first 256 row numbers 0"
 abbrev pub refused_cleared : ℕ → List ℕ → Reading
-refused_cleared code lent = record { answer = Refused code; header = []; body = []; attachment = []; rows = laid_out [] lent }
+refused_cleared code lent = record { answer = Err code; header = []; body = []; attachment = []; rows = laid_out [] lent }
 
 -- "15 | attachment larger than body", "15 last"
 unfoldable pub with_attachment : Kind → List ℕ → List ℕ → State → Reading
 with_attachment kind f lent st =
     cond (leb (attachment_size_of kind st.slots) (length (body_of kind f)))
     (record {
-      answer = Read (record_of kind (id_of f) (version_of f) st.slots (length st.rows));
+      answer = Ok (record_of kind (id_of f) (version_of f) st.slots (length st.rows));
       header = header_of kind f;
       body = body_of kind f;
       attachment = last_bytes (attachment_size_of kind st.slots) (body_of kind f);
@@ -75,7 +79,7 @@ with_attachment kind f lent st =
     (refused_cleared 15 lent)
 
 -- what a message that was read, or refused, comes to
-unfoldable pub answered : Kind → List ℕ → List ℕ → Result → Reading
+unfoldable pub answered : Kind → List ℕ → List ℕ → fields.Result → Reading
 answered kind f lent (refused code) = refused_cleared code lent
 answered kind f lent (ok st) = with_attachment kind f lent st
 

@@ -1,13 +1,12 @@
 -- What a record says, wherever its bytes are: two records over different bytes are the same record where their meanings are equal
-use Rattle.std.specs.Prelude.{ℕ, Bool, List, [], ◌∷◌, length, ℤ}
+use Rattle.std.specs.Prelude.{ℕ, Bool, List, [], ◌∷◌, length, ℤ, Ok, Err}
+use Rattle.message.specs.Frames.{Answer}
 use Rattle.decoder.specs.Rows.{rows_in, Row}
 use Rattle.decoder.specs.Fields.{part_of}
 use Rattle.schema.specs.declared.Kind.{Kind}
 use Rattle.records.specs.declared.Span.{Span}
 use Rattle.records.specs.declared.Record.{Record}
 use Rattle.records.specs.declared.Record.TheVariants.{Request, Response, Init, Data, Feedback, Close}
-use Rattle.message.specs.declared.Answer.{Answer}
-use Rattle.message.specs.declared.Answer.TheVariants.{Read, Refused}
 use Rattle.records.specs.Content.{kind_of, record_id, record_version, row_count}
 
 -- "A byte field is a start and length": its length, and the bytes that the two name. The length is beside them, since what they name
@@ -80,5 +79,5 @@ meaning r source numbers = says (kind_of r) (record_id r) (record_version r) (fi
 
 -- what the reader answered says
 unfoldable pub answer_meaning : Answer → (source numbers : List ℕ) → Meaning
-answer_meaning (Read r) source numbers = meaning r source numbers
-answer_meaning (Refused code) source numbers = refused code
+answer_meaning (Ok r) source numbers = meaning r source numbers
+answer_meaning (Err code) source numbers = refused code

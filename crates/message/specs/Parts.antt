@@ -1,26 +1,28 @@
 -- What the places say that the reader's core answers with
-use Rattle.std.specs.Prelude.{ℕ, ◌+◌, ◌-◌, ◌≤◌, ◌≡◌, true, List, length, take, get_or}
+use Rattle.std.specs.Prelude.{ℕ, ◌+◌, ◌-◌, ◌≤◌, ◌≡◌, true, List, length, take, get_or, Result, Ok, Err}
 use Rattle.fixed_header.specs.Header.{max_frame, header_error, total_of, header_size_of, id_of, version_of}
-use Rattle.message.specs.Frames.{Reading, kind_fits}
+use Rattle.message.specs.Frames.{Reading, kind_fits, refused_untouched}
 use Rattle.message.specs.Spans.{span_from, spans_of}
 use Rattle.schema.specs.declared.Kind.{Kind}
 use Rattle.schema.specs.declared.Kind.TheVariants as kinds
-use Rattle.message.specs.declared.Answer.TheVariants.{Refused}
+use Rattle.refusals.specs.Refusals.{number}
+use Rattle.refusals.specs.declared.Refusal.{Refusal}
 use Rattle.message.specs.declared.frames.Parts.{Parts}
 
 -- The record and the row numbers are those of the reading x of a frame of that size, and the places are those of its spans. The places
--- rise (`within` in proofs/PartPlaces), and a refusal has zeros: no subtraction is cut off.
-pub record PartsOf (x : Reading) (size : ℕ) (p : Parts) (numbers : List ℕ) : Type 0 where
-  pub answer_is : p.answer ≡ x.answer
+-- rise (`within` in proofs/PartPlaces): no subtraction is cut off.
+pub record ReadParts (x : Reading) (size : ℕ) (p : Parts) (numbers : List ℕ) : Type 0 where
+  pub answer_is : x.answer ≡ Ok p.content
   pub rows_are : numbers ≡ x.rows
-  pub small : (p.places.body ≤ max_frame) × (p.places.end ≤ max_frame)
-  pub header_at : span_from p.places.header (p.places.body - p.places.header) ≡ (spans_of x size).header
-  pub body_at_is : span_from p.places.body (p.places.end - p.places.body) ≡ (spans_of x size).body
-  pub attachment_at : span_from p.places.attachment (p.places.end - p.places.attachment) ≡ (spans_of x size).attachment
+  pub small : (p.body ≤ max_frame) × (size ≤ max_frame)
+  pub header_at : span_from 16 (p.body - 16) ≡ (spans_of x size).header
+  pub body_at_is : span_from p.body (size - p.body) ≡ (spans_of x size).body
+  pub attachment_at : span_from p.attachment (size - p.attachment) ≡ (spans_of x size).attachment
 
 -- a refusal has no parts
-abbrev pub no_parts : (code : ℕ) → Parts
-no_parts code = record { answer = Refused code; places = record { header = 0; body = 0; attachment = 0; end = 0 } }
+abbrev pub PartsOf : Reading → (size : ℕ) → Result Parts Refusal → (numbers : List ℕ) → Type 0
+PartsOf x size (Ok p) numbers = ReadParts x size p numbers
+PartsOf x size (Err refusal) numbers = x ≡ refused_untouched (number refusal) numbers
 
 -- the place after the header, by the header size and the frame's length
 unfoldable pub body_at : Kind → (header_size size : ℕ) → ℕ

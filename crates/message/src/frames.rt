@@ -1,49 +1,25 @@
 // A frame read as a kind: which frames fit it, what its message says and where its parts are.
-ghost use Rattle.std.specs.Prelude.{◌≡◌, ◌+◌, ◌-◌, ◌≤◌, length, take, eqb, ◌&&◌};
+ghost use Rattle.std.specs.Prelude.{◌≡◌, ◌+◌, ◌-◌, ◌≤◌, length, take, eqb, ◌&&◌, Ok};
 ghost use Rattle.fixed_header.specs.Header.{max_frame, parsed};
-ghost use Rattle.fixed_header.specs.declared.Parsed.TheVariants.{Good};
 ghost use Rattle.records.specs.Records.{attachment_size_of};
 ghost use Rattle.message.specs.Frames.{kind_fits, read_frame};
 ghost use Rattle.decoder.specs.Rows.{row_numbers};
 ghost use Rattle.message.specs.Spans.{span_from};
-ghost use Rattle.message.specs.Parts.{PartsOf, no_parts, body_at, Whole};
+ghost use Rattle.message.specs.Parts.{PartsOf, body_at, Whole};
 
-use crate::Answer;
 use decoder::{ROW_NUMBERS, clear_rows, decode};
-use fixed_header::{FixedHeader, HEADER, Parsed, ceiling_ok, parse_header};
-use records::{Span, record_of};
-use refusals::{BAD_BODY, BAD_CEILING, ROWS_SHORT, WRONG_FRAME};
+use fixed_header::{FixedHeader, HEADER, ceiling_ok, parse_header};
+use records::{Record, Span, record_of};
+use refusals::Refusal;
 use schema::{Kind, schema_number};
 
-// Where the parts of a frame are: the header up to the body, the body and the attachment up to the end. All are 0 where the
-// frame is refused.
-#[derive(Clone, Copy)]
-pub(crate) struct Places {
-    pub header: usize,
-    pub body: usize,
-    pub attachment: usize,
-    pub end: usize,
-}
-
-// The record or the error code, and the places of the parts.
+// What a frame says, and where its body and its attachment start. The header ends where the body starts, and both of them end
+// with the frame.
 #[derive(Clone, Copy)]
 pub(crate) struct Parts {
-    pub answer: Answer,
-    pub places: Places,
-}
-
-fn refused(code: u32) -> Parts
-    ensures { result ≡ no_parts code }
-{
-    Parts {
-        answer: Answer::Refused(code),
-        places: Places {
-            header: 0,
-            body: 0,
-            attachment: 0,
-            end: 0,
-        },
-    }
+    pub content: Record,
+    pub body: usize,
+    pub attachment: usize,
 }
 
 // Whether a frame of these types is one of the kind.
@@ -52,8 +28,7 @@ fn kind_fits(kind: Kind, data_type: u8, stream_type: u8) -> bool
     ensures { result ≡ kind_fits kind data_type stream_type }
 {
     match kind {
-        Kind::Request => data_type == 0,
-        Kind::Response => data_type == 0,
+        Kind::Request | Kind::Response => data_type == 0,
         Kind::Init => is_stream(data_type, stream_type, 1),
         Kind::Data => is_stream(data_type, stream_type, 2),
         Kind::Feedback => is_stream(data_type, stream_type, 3),
@@ -64,10 +39,7 @@ fn kind_fits(kind: Kind, data_type: u8, stream_type: u8) -> bool
 fn is_stream(data_type: u8, stream_type: u8, wanted: u8) -> bool
     ensures { result ≡ eqb data_type 1 && eqb stream_type wanted }
 {
-    if data_type != 1 {
-        return false;
-    }
-    stream_type == wanted
+    data_type == 1 && stream_type == wanted
 }
 
 // The place after the header: the message of a stream frame is its header, and Data has only a body.
@@ -77,12 +49,9 @@ fn body_at(kind: Kind, header_size: usize, size: usize) -> usize
     ensures { result ≡ body_at kind header_size size }
 {
     match kind {
-        Kind::Request => HEADER + header_size,
-        Kind::Response => HEADER + header_size,
-        Kind::Init => size,
+        Kind::Request | Kind::Response => HEADER + header_size,
+        Kind::Init | Kind::Feedback | Kind::Close => size,
         Kind::Data => HEADER,
-        Kind::Feedback => size,
-        Kind::Close => size,
     }
 }
 
@@ -94,10 +63,7 @@ fn attachment_size(kind: Kind, v: [u32; 16]) -> u32
     match kind {
         Kind::Request => v[13],
         Kind::Response => v[10],
-        Kind::Init => 0,
-        Kind::Data => 0,
-        Kind::Feedback => 0,
-        Kind::Close => 0,
+        Kind::Init | Kind::Data | Kind::Feedback | Kind::Close => 0,
     }
 }
 
@@ -105,81 +71,71 @@ fn attachment_size(kind: Kind, v: [u32; 16]) -> u32
 fn read_message(
     kind: Kind,
     frame: &[u8],
-    header_size: usize,
-    id: u32,
-    version: u8,
+    header: FixedHeader,
     rows: &mut [u32],
-) -> Parts
-    requires { (row_numbers ≤ length rows.old) × Whole kind frame.now header_size id version }
+) -> Result<Parts, Refusal>
+    requires { (row_numbers ≤ length rows.old) × Whole kind frame.now header.header_size header.id header.version }
     ensures { PartsOf (read_frame max_frame kind frame.now rows.old) (length frame.now)
         result rows.new }
 {
     let size = frame.len();
-    let body = body_at(kind, header_size, size);
-    let decoded = decode(frame, HEADER, body, schema_number(kind), rows);
-    let error = decoded.error;
-    if error != 0 {
-        return refused(error);
-    }
-    let slots = decoded.slots;
+    let body = body_at(kind, header.header_size, size);
+    let slots = decode(frame, HEADER, body, schema_number(kind), rows)?;
     let values = slots.values;
     let attachment = attachment_size(kind, values) as usize;
     if size - body < attachment {
         clear_rows(rows);
-        return refused(BAD_BODY);
+        return Err(Refusal::BadBody);
     }
-    Parts {
-        answer: Answer::Read(record_of(kind, id, version, values, slots.rows as u32)),
-        places: Places {
-            header: HEADER,
-            body,
-            attachment: size - attachment,
-            end: size,
-        },
-    }
+    let count = slots.rows as u32;
+    Ok(Parts {
+        content: record_of(kind, header.id, header.version, values, count),
+        body,
+        attachment: size - attachment,
+    })
 }
 
 // A frame whose fixed header is good: from here on its ceiling says nothing (`read_under`).
-fn read_whole(kind: Kind, frame: &[u8], header: FixedHeader, rows: &mut [u32]) -> Parts
-    requires { (row_numbers ≤ length rows.old) × (16 ≤ length frame.now) × (Good header ≡ parsed max_frame (take 16 frame.now)) }
+fn read_whole(
+    kind: Kind,
+    frame: &[u8],
+    header: FixedHeader,
+    rows: &mut [u32],
+) -> Result<Parts, Refusal>
+    requires { (row_numbers ≤ length rows.old) × (16 ≤ length frame.now) × (Ok header ≡ parsed max_frame (take 16 frame.now)) }
     ensures { PartsOf (read_frame max_frame kind frame.now rows.old) (length frame.now)
         result rows.new }
 {
     if frame.len() != header.total {
-        return refused(WRONG_FRAME);
+        return Err(Refusal::WrongFrame);
     }
     if !kind_fits(kind, frame[2], frame[3]) {
-        return refused(WRONG_FRAME);
+        return Err(Refusal::WrongFrame);
     }
-    read_message(
-        kind,
-        frame,
-        header.header_size,
-        header.id,
-        header.version,
-        rows,
-    )
+    read_message(kind, frame, header, rows)
 }
 
 // A frame read as a kind: the order of the error codes is 41; 16; 9 for fewer than 16 bytes; 3 to 7; 9; 10 to 14; 15.
-pub(crate) fn read_parts(kind: Kind, frame: &[u8], ceiling: u32, rows: &mut [u32]) -> Parts
+pub(crate) fn read_parts(
+    kind: Kind,
+    frame: &[u8],
+    ceiling: u32,
+    rows: &mut [u32],
+) -> Result<Parts, Refusal>
     ensures { PartsOf (read_frame ceiling kind frame.now rows.old) (length frame.now)
         result rows.new }
 {
     if !ceiling_ok(ceiling) {
-        return refused(BAD_CEILING);
+        return Err(Refusal::BadCeiling);
     }
     if rows.len() < ROW_NUMBERS {
-        return refused(ROWS_SHORT);
+        return Err(Refusal::RowsShort);
     }
     if frame.len() < HEADER {
-        return refused(WRONG_FRAME); // "fewer than 16 bytes is 9"
+        return Err(Refusal::WrongFrame); // "fewer than 16 bytes is 9"
     }
-    let fixed = parse_header(&frame[..HEADER], ceiling);
-    match fixed {
-        Parsed::Refused(code) => refused(code),
-        Parsed::Good(header) => read_whole(kind, frame, header, rows),
-    }
+    let header = parse_header(&frame[..HEADER], ceiling)?;
+    read_whole(kind, frame, header, rows)
 }
 
 // The part from one place up to another as a start and a length.

@@ -5,23 +5,19 @@ mod frames;
 
 ghost use Rattle.std.specs.Prelude.{◌≡◌, min, length};
 ghost use Rattle.message.specs.Frames.{read_frame};
-ghost use Rattle.message.specs.Spans.{bytes_at, place_after, spans_of};
+ghost use Rattle.message.specs.Spans.{bytes_at, place_after, spans_given, spans_of};
 
+use fixed_header::HEADER;
 use frames::{read_parts, span};
 use records::{Record, Span};
+use refusals::Refusal;
 use schema::Kind;
 
-// What a frame reads as: its record, or the error code.
-#[derive(Clone, Copy)]
-pub enum Answer {
-    Read(Record),
-    Refused(u32),
-}
-
-// What a frame reads as, with its parts as starts and lengths; an empty one is 0, 0.
+// What a frame reads as: its record or the refusal, and its parts as starts and lengths; an empty one is 0, 0.
+// Parts beside the answer and no Result of both: those of a refused frame are promised, too (`spans_of`).
 #[derive(Clone, Copy)]
 pub struct Located {
-    pub answer: Answer,
+    pub answer: Result<Record, Refusal>,
     pub header: Span,
     pub body: Span,
     pub attachment: Span,
@@ -30,17 +26,26 @@ pub struct Located {
 // Reads a frame as the kind that the caller expects, under its connection's ceiling. The map rows go to the first 256 of
 // the lent numbers, four to a row.
 pub fn read_spans(kind: Kind, frame: &[u8], ceiling: u32, rows: &mut [u32]) -> Located
-    ensures { (result ≡ spans_of (read_frame ceiling kind frame.now rows.old) (length frame.now))
+    ensures { (spans_given result ≡ spans_of (read_frame ceiling kind frame.now rows.old) (length frame.now))
         × (rows.new ≡ (read_frame ceiling kind frame.now rows.old).rows) }
 {
-    let parts = read_parts(kind, frame, ceiling, rows);
-    let answer = parts.answer;
-    let places = parts.places;
-    Located {
-        answer,
-        header: span(places.header, places.body),
-        body: span(places.body, places.end),
-        attachment: span(places.attachment, places.end),
+    let size = frame.len();
+    match read_parts(kind, frame, ceiling, rows) {
+        Ok(parts) => Located {
+            answer: Ok(parts.content),
+            header: span(HEADER, parts.body),
+            body: span(parts.body, size),
+            attachment: span(parts.attachment, size),
+        },
+        Err(refusal) => {
+            let none = Span { start: 0, len: 0 };
+            Located {
+                answer: Err(refusal),
+                header: none,
+                body: none,
+                attachment: none,
+            }
+        }
     }
 }
 

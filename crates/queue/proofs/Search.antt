@@ -1,30 +1,22 @@
 -- Laws of `any` and `place`: a place found holds a job with the property and no earlier place does; some job has the
--- property exactly where the place is inside the list; and a search from a place on goes up place by place.
+-- property exactly where the place is inside the list.
 -- Assumes nothing.
-use Prim.Native.Nat.{ℕ, zero, suc, ◌+◌, ◌-◌, ◌≤◌, ◌<◌}
+use Prim.Native.Nat.{ℕ, zero, suc, ◌<◌}
 use mathlib.Core.Path.{◌≡◌, refl, sym, ap, ◌∙◌}
 use mathlib.Core.Bool.{Bool, true, false, cond, ◌||◌}
 use mathlib.Core.List.{List, [], ◌∷◌}
 use native.Mathlib.Omega.{arith}
-use native.Mathlib.Numerals.{add-one}
-use borrow.Author.Tests.{lt-ltb, le-ltb, ltb-false}
+use borrow.Author.Tests.{lt-ltb, ltb-false}
 use lib.Dec.{ltb, leb-suc-suc}
-use lib.ListN.{length, take, drop, length-drop, drop_of_length-le}
-use lib.Seq.{drop-cons, length-take-le, get_or-take}
+use lib.ListN.{length}
 use Rattle.laws.proofs.Booleans.{or_right}
 use Rattle.queue.specs.declared.Job.{Job}
+use Rattle.std.specs.List.{AllWithin, HoldsAt}
+use Rattle.std.specs.Option.{MatchOption, is_some}
+use Rattle.std.specs.declared.option.Option.{Option}
+use Rattle.std.specs.declared.option.Option.TheVariants.{None, Some}
+use Rattle.queue.specs.Found.{AtPlace, Nowhere}
 use Rattle.queue.specs.Waiting.{zero_job, any, place, job_at}
-
--- the first n jobs from a place on: the job there and those after it, or nothing
-pub drop_front :
-    (js : List Job) (n i : ℕ) → n ≤ length js → i < n
-    → drop i (take n js) ≡ job_at js i ∷ drop (suc i) (take n js)
-drop_front js n i fits h =
-    drop-cons (take n js) i zero_job (omega (arith, length-take-le n js fits))
-    ∙ ap (λ (j : Job). j ∷ drop (suc i) (take n js)) (get_or-take n js i zero_job h)
-
-pub none_left : (js : List Job) (n i : ℕ) → n ≤ length js → n ≤ i → drop i (take n js) ≡ []
-none_left js n i fits h = drop_of_length-le (take n js) {i = i} (omega (arith, length-take-le n js fits))
 
 module _ (p : Job → Bool) where
   pub place_holds : (w : List Job) → place p w < length w → p (job_at w (place p w)) ≡ true
@@ -79,30 +71,21 @@ module _ (p : Job → Bool) where
   pub none_at : (w : List Job) (k : ℕ) → any p w ≡ false → k < length w → p (job_at w k) ≡ false
   none_at w k e h = place_passes w k (omega (arith, ltb-false (place p w) (length w) (sym (any_place w) ∙ e))) h
 
-  -- a search of the first n jobs, from a place on: it goes past a job, stops at one, or ends
-  module _ (js : List Job) (n i : ℕ) (fits : n ≤ length js) where
-    pub search_past :
-        i < n → p (job_at js i) ≡ false
-        → i + place p (drop i (take n js)) ≡ i + 1 + place p (drop (i + 1) (take n js))
-    search_past h e = rw (drop_front js n i fits h, e, add-one) (omega arith)
+-- what `position` says of a list
+pub found_in :
+    (p : Job → Bool) (w : List Job) (r : Option ℕ)
+    → MatchOption r (AllWithin (λ j. p j ≡ false) w 0 (length w))
+    (λ i. (i < length w) × HoldsAt (λ j. p j ≡ true) w i × AllWithin (λ j. p j ≡ false) w 0 i)
+    → MatchOption r (Nowhere p w) (AtPlace p w)
+found_in p w None h = any_none p w (λ k l. h k zero_job (omega arith) l)
+found_in p w (Some i) h =
+    record {
+      some = any_some p w i h.0 (h.1 zero_job);
+      inside = h.0;
+      is_place = sym (place_is p w i h.0 (h.1 zero_job) (λ k l. h.2 k zero_job (omega arith) l));
+    }
 
-    pub search_stops : i < n → p (job_at js i) ≡ true → i + place p (drop i (take n js)) ≡ i
-    search_stops h e = rw (drop_front js n i fits h, e) (omega arith)
-
-    pub search_ends : n ≤ i → i + place p (drop i (take n js)) ≡ i
-    search_ends h = rw (none_left js n i fits h) (omega arith)
-
-    -- what a search found, r, says whether some job has the property
-    abbrev rest : List Job
-    rest = drop i (take n js)
-
-    length_rest : length rest ≡ n - i
-    length_rest = length-drop i (take n js) ∙ ap (λ (k : ℕ). k - i) (length-take-le n js fits)
-
-    pub search_found : (r : ℕ) → r ≡ i + place p (drop i (take n js)) → r < n → any p (drop i (take n js)) ≡ true
-    search_found r e h =
-        any_place rest ∙ lt-ltb (place p rest) (length rest) (omega (arith, length_rest))
-
-    pub search_fails : (r : ℕ) → i ≤ n → r ≡ i + place p (drop i (take n js)) → n ≤ r → any p (drop i (take n js)) ≡ false
-    search_fails r g e h =
-        any_place rest ∙ le-ltb (place p rest) (length rest) (omega (arith, length_rest))
+-- some job has the property where one was found
+pub finds : (p : Job → Bool) (w : List Job) (r : Option ℕ) → MatchOption r (Nowhere p w) (AtPlace p w) → any p w ≡ is_some r
+finds p w None h = h
+finds p w (Some i) h = h.some

@@ -1,22 +1,22 @@
 -- What a valid queue holds, and how the check for an invalid one goes up the list place by place.
 -- Assumes nothing.
-use Prim.Native.Nat.{ℕ, zero, suc, ◌+◌, ◌≤◌, ◌<◌}
-use mathlib.Core.Path.{◌≡◌, sym, ◌∙◌}
-use mathlib.Core.Bool.{true, false, true≢false, ◌||◌}
+use Prim.Native.Nat.{ℕ, zero, suc, ◌≤◌, ◌<◌}
+use mathlib.Core.Path.{◌≡◌, refl, sym, ◌∙◌}
+use mathlib.Core.Bool.{Bool, true, false, true≢false, ◌||◌}
 use mathlib.Core.List.{List, [], ◌∷◌}
 use native.Mathlib.Omega.{arith}
-use native.Mathlib.Numerals.{add-one}
 use native.Mathlib.Decide.{dec_lt}
 use borrow.Author.Tests.{lt-ltb, le-ltb, ltb-false, eqb-true}
 use lib.Dec.{ltb, eqb}
-use lib.ListN.{length, take, drop}
+use lib.ListN.{length}
 use lib.Seq.{length-take-le, get_or-take}
 use Rattle.laws.proofs.Booleans.{both, neither, or_right}
 use Rattle.queue.specs.declared.Job.{Job}
 use Rattle.queue.specs.declared.Queue.{Queue}
-use Rattle.queue.specs.Waiting.{capacity, latest_arrival, zero_job, waiting, any, place, has_pair, pair_twice, late, invalid, job_at}
+use Rattle.queue.specs.Waiting.{capacity, latest_arrival, zero_job, waiting, any, has_pair, pair_twice, late, invalid, job_at}
 use Rattle.queue.specs.Waiting.{same_pair}
-use Rattle.queue.proofs.Search.{any_some, none_at, drop_front, search_found, search_fails}
+use Rattle.queue.specs.Found.{Waits}
+use Rattle.queue.proofs.Search.{any_some, none_at}
 
 -- a queue that is not invalid
 pub record Valid (q : Queue) : Type 0 where
@@ -35,19 +35,31 @@ pub not_invalid : (q : Queue) → Valid q → invalid q ≡ false
 unfolding invalid
 not_invalid q v = rw (le-ltb capacity q.count v.few, v.apart, v.early)
 
+-- what is wrong with a list of jobs that wait
+abbrev pub fault : List Job → Bool
+fault w = pair_twice w || any late w
+
 pub over_invalid : (q : Queue) → capacity < q.count → invalid q ≡ true
 unfolding invalid
 over_invalid q h = rw (lt-ltb capacity q.count h)
 
-pub twice_invalid : (q : Queue) → pair_twice (waiting q) ≡ true → invalid q ≡ true
+pub fault_invalid : (q : Queue) → fault (waiting q) ≡ true → invalid q ≡ true
 unfolding invalid
-twice_invalid q e = or_right (ltb capacity q.count) (pair_twice (waiting q) || any late (waiting q)) (rw e)
+fault_invalid q e = or_right (ltb capacity q.count) (fault (waiting q)) e
 
-pub late_invalid : (q : Queue) → any late (waiting q) ≡ true → invalid q ≡ true
+pub waits : (q : Queue) → length q.jobs ≡ capacity → q.count ≤ capacity → fault (waiting q) ≡ false → Waits q (waiting q)
 unfolding invalid
-late_invalid q e =
-    or_right (ltb capacity q.count) (pair_twice (waiting q) || any late (waiting q))
-    (or_right (pair_twice (waiting q)) (any late (waiting q)) e)
+waits q n h e =
+    record {
+      valid = rw (le-ltb capacity q.count h, e);
+      are = refl;
+      long = length-take-le q.count q.jobs (omega arith);
+      few = h;
+      early = (neither (pair_twice (waiting q)) (any late (waiting q)) e).1;
+    }
+
+-- the tests of the code
+pub ruleset checked = (over_invalid, fault_invalid, waits)
 
 -- the waiting arrivals of a valid queue are small
 pub arrival_at :
@@ -87,34 +99,13 @@ pairs_apart w c r i k n h l e f = go (dec_lt i k) (dec_lt k i)
     go (no a) (yes b) = absurd (true≢false (sym (pair_again c r w k i b h f e) ∙ n))
     go (no a) (no b) = omega arith
 
--- the two tests of the first n jobs from a place on: they hold because of the job there, or go past it
-module _ (js : List Job) (n i : ℕ) (fits : n ≤ length js) (h : i < n) where
-  split : drop i (take n js) ≡ job_at js i ∷ drop (i + 1) (take n js)
-  split = rw add-one (drop_front js n i fits h)
+-- ---- the check for a fault goes up the list job by job
+module _ (j : Job) (js : List Job) where
+  pub late_here : late j ≡ true → fault (j ∷ js) ≡ true
+  late_here e = or_right (pair_twice (j ∷ js)) (any late (j ∷ js)) (rw e)
 
-  pub late_here : late (job_at js i) ≡ true → any late (drop i (take n js)) ≡ true
-  late_here e = rw (split, e)
+  pub twice_here : any (same_pair j) js ≡ true → fault (j ∷ js) ≡ true
+  twice_here e = rw e
 
-  pub late_past : late (job_at js i) ≡ false → any late (drop i (take n js)) ≡ any late (drop (i + 1) (take n js))
-  late_past e = rw (split, e)
-
-  pub twice_here : any (same_pair (job_at js i)) (drop (i + 1) (take n js)) ≡ true → pair_twice (drop i (take n js)) ≡ true
-  twice_here e = rw (split, e)
-
-  pub twice_past :
-      any (same_pair (job_at js i)) (drop (i + 1) (take n js)) ≡ false
-      → pair_twice (drop i (take n js)) ≡ pair_twice (drop (i + 1) (take n js))
-  twice_past e = rw (split, e)
-
--- what a search of the whole list found says of the pair
-module _
-    (q : Queue) (array : length q.jobs ≡ capacity) (ok : invalid q ≡ false)
-    (c r at : ℕ) (found : at ≡ 0 + place (has_pair c r) (waiting q)) where
-  fits : q.count ≤ length q.jobs
-  fits = omega (arith, (valid q ok).few)
-
-  pub found_waits : at < q.count → any (has_pair c r) (waiting q) ≡ true
-  found_waits h = search_found (has_pair c r) q.jobs q.count 0 fits at found h
-
-  pub found_absent : q.count ≤ at → any (has_pair c r) (waiting q) ≡ false
-  found_absent h = search_fails (has_pair c r) q.jobs q.count 0 fits at (omega arith) found h
+  pub no_fault_here : late j ≡ false → any (same_pair j) js ≡ false → fault (j ∷ js) ≡ fault js
+  no_fault_here e f = rw (e, f)

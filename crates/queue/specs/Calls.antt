@@ -1,12 +1,14 @@
 -- Document 01, "Waiting jobs" and "Refusal numbers": what each call answers, and the whole queue after it.
 -- Assumes nothing.
-use Rattle.std.specs.Prelude.{ℕ, cond, eqb, replicate}
+use Rattle.std.specs.Prelude.{ℕ, cond, eqb, replicate, Result, Ok, Err}
 use Rattle.refusals.specs.Numbers.{queue_full, late_arrival, queue_empty, bad_queue, pair_waits, pair_absent}
+use Rattle.refusals.specs.Refusals.{code_of}
+use Rattle.refusals.specs.declared.Refusal.{Refusal}
 use Rattle.records.specs.declared.Request.{Request}
 use Rattle.queue.specs.declared.Job.{Job}
 use Rattle.queue.specs.declared.Queue.{Queue}
-use Rattle.queue.specs.declared.Added.{Added}
-use Rattle.queue.specs.declared.Removed.{Removed}
+use Rattle.queue.specs.declared.Added.{Added as AddAnswer}
+use Rattle.queue.specs.declared.Removed.{Removed as RemovalAnswer}
 use Rattle.queue.specs.Waiting.{capacity, zero_job, waiting, job_at, any, place, has_pair}
 use Rattle.queue.specs.Waiting.{same_pair, late, invalid, earliest, filled, closed_up}
 
@@ -22,6 +24,16 @@ job_of request connection arrival = new_job connection request.id request.timeou
 -- a queue in which nothing waits, all zero
 abbrev pub empty_queue : Queue
 empty_queue = record { jobs = replicate capacity zero_job; count = 0 }
+
+-- ---- what the caller has after a call: the queue, the job removed, and the refusal number, 0 where there is none
+pub record Added : Type 0 where
+  pub queue : Queue
+  pub error : ℕ
+
+pub record Removed : Type 0 where
+  pub queue : Queue
+  pub job : Job
+  pub error : ℕ
 
 -- "all others leave rows, output and list untouched"
 abbrev pub add_error : Queue → ℕ → Added
@@ -58,3 +70,14 @@ cancelled q c r =
     cond (invalid q) (remove_error q bad_queue)
     (cond (any (has_pair c r) (waiting q)) (removed_at q (place (has_pair c r) (waiting q)))
     (remove_error q pair_absent))
+
+-- ---- the same by what the code answers: the job of a refusal is all zero
+abbrev pub after_add : AddAnswer → Added
+after_add a = record { queue = a.queue; error = code_of a.answer }
+
+abbrev pub job_or_zero : Result Job Refusal → Job
+job_or_zero (Ok j) = j
+job_or_zero (Err refusal) = zero_job
+
+abbrev pub after_removal : RemovalAnswer → Removed
+after_removal r = record { queue = r.queue; job = job_or_zero r.job; error = code_of r.job }

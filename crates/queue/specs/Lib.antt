@@ -2,3 +2,5 @@
 pub mod Due
 pub mod Waiting
 pub mod Calls
+-- for the private functions
+pub mod Found

@@ -1,49 +1,50 @@
 // Which job is due first.
-ghost use Rattle.std.specs.Prelude.{◌≡◌, false, ◌≤◌, ◌<◌, ltb};
-ghost use Rattle.queue.specs.Due.{due_time, due_before};
-ghost use Rattle.queue.specs.Waiting.{latest_arrival, waiting, earliest, invalid};
+ghost use Rattle.std.specs.Prelude.{◌≡◌, false, ◌≤◌, [], MatchOption};
+ghost use Rattle.queue.specs.Due.{due, earlier};
+ghost use Rattle.queue.specs.Waiting.{latest_arrival, any, late};
+ghost use Rattle.queue.specs.Found.{as_due, IsEarliest};
 
-use crate::{Job, Queue};
+use crate::Job;
 
-// Whether a's due time is before b's. Up to the latest arrival the sums fit.
-fn sooner(a: Job, b: Job) -> bool
-    requires { (a.arrival ≤ latest_arrival) × (b.arrival ≤ latest_arrival) }
-    ensures { result ≡ ltb (due_time a) (due_time b) }
-{
-    let x = a.arrival + (a.timeout as u64);
-    let y = b.arrival + (b.timeout as u64);
-    x < y
+// When a job is due, in the order of due times: no deadline comes after all others.
+#[derive(Clone, Copy, PartialEq, Eq, PartialOrd, Ord)]
+enum Due {
+    At(u64),
+    Never,
 }
 
-// Whether a is due before b.
-fn due_before(a: Job, b: Job) -> bool
-    requires { (a.arrival ≤ latest_arrival) × (b.arrival ≤ latest_arrival) }
-    ensures { result ≡ due_before a b }
+// When a job is due. Up to the latest arrival the sum fits.
+#[tactic(auto, using(std::proofs::lemmas::Bool::Decides::nat_tests), unfolding(crate::specs::Due::due))]
+fn due_of(j: &Job) -> Due
+    requires { j.now.arrival ≤ latest_arrival }
+    ensures { as_due result ≡ due j.now }
 {
-    if a.timeout == 0 {
-        return false;
+    match j.timeout {
+        0 => Due::Never,
+        timeout => Due::At(j.arrival + u64::from(timeout)),
     }
-    if b.timeout == 0 {
-        return true;
-    }
-    sooner(a, b)
 }
 
-// The place of the job that is due first.
-pub(crate) fn earliest(q: Queue) -> usize
-    requires { (invalid q ≡ false) × (0 < q.count) }
-    ensures { result ≡ earliest (waiting q) }
+// Whether a is before b; two that have no deadline are a tie.
+fn due_before(a: Due, b: Due) -> bool
+    ensures { result ≡ earlier (as_due a) (as_due b) }
 {
-    let n = q.count;
-    let mut best: usize = 0;
-    let mut i: usize = 1;
-    while i < n {
-        let j = q.jobs[i];
-        let b = q.jobs[best];
-        if due_before(j, b) {
-            best = i;
+    a < b
+}
+
+// The place of the job that is due first, of several the first.
+pub(crate) fn earliest(jobs: &[Job]) -> Option<usize>
+    requires { any late jobs.now ≡ false }
+    ensures { MatchOption result (jobs.now ≡ []) (IsEarliest jobs.now) }
+{
+    let mut first = 0;
+    let mut best = due_of(jobs.first()?);
+    for (i, j) in jobs.iter().enumerate() {
+        let due = due_of(j);
+        if due_before(due, best) {
+            first = i;
+            best = due;
         }
-        i += 1;
     }
-    best
+    Some(first)
 }

@@ -1,32 +1,22 @@
-// Where a pair of connection number and request id is in the queue.
-ghost use Rattle.std.specs.Prelude.{◌≡◌, ◌+◌, ◌≤◌, drop};
-ghost use Rattle.queue.specs.Waiting.{capacity, waiting, place, has_pair};
+// Where a pair of connection number and request id is among jobs.
+ghost use Rattle.std.specs.Prelude.{◌≡◌, MatchOption};
+ghost use Rattle.queue.specs.Waiting.{has_pair};
+ghost use Rattle.queue.specs.Found.{AtPlace, Nowhere};
 
-use crate::{Job, Queue};
+use crate::Job;
 
 // Whether a job has a pair.
-fn has_pair(j: Job, connection: u32, request: u32) -> bool
-    ensures { result ≡ has_pair connection request j }
+// No derived equality: of a job's five numbers two are its pair.
+fn has_pair(j: &Job, connection: u32, request: u32) -> bool
+    ensures { result ≡ has_pair connection request j.now }
 {
-    if j.connection == connection {
-        return j.request == request;
-    }
-    false
+    j.connection == connection && j.request == request
 }
 
-// The first place of a pair among the waiting jobs from a place on; the count where there is none.
-pub(crate) fn find(q: Queue, from: usize, connection: u32, request: u32) -> usize
-    requires { (from ≤ q.count) × (q.count ≤ capacity) }
-    ensures { result ≡ from + place (has_pair connection request) (drop from (waiting q)) }
+// The first place of a pair.
+// Two numbers and no pair: so `cancel` and C hand them in, and each is only compared.
+pub(crate) fn find(jobs: &[Job], connection: u32, request: u32) -> Option<usize>
+    ensures { MatchOption result (Nowhere (has_pair connection request) jobs.now) (AtPlace (has_pair connection request) jobs.now) }
 {
-    let n = q.count;
-    let mut i = from;
-    while i < n {
-        let j = q.jobs[i];
-        if has_pair(j, connection, request) {
-            return i;
-        }
-        i += 1;
-    }
-    n
+    jobs.iter().position(|j| has_pair(j, connection, request))
 }

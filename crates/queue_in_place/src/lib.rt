@@ -1,14 +1,15 @@
 // The queue of waiting jobs, lent by the controller and updated in place (document 01, "Waiting jobs"), for C. Each function
-// reads the queue, calls the function by value of crate `queue`, stores the queue and the job of the answer, and returns its
-// error code: document 01's refusal number, and 0 where there is none. So each contract says that what the caller has
-// afterwards, put together as that answer, is the definition's answer for the queue as it was lent. `queue_in_place_c` exports
-// the functions.
+// reads the queue, calls the function by value of crate `queue`, stores the queue and the job of the answer, and returns
+// document 01's refusal number, and 0 where there is none. So each contract says that what the caller has afterwards, put
+// together, is the definition's answer for the queue as it was lent. `queue_in_place_c` exports the functions.
 #![tactic(auto)]
 
 ghost use Rattle.std.specs.Prelude.{◌≡◌};
-ghost use Rattle.queue.specs.Calls.{new_job, empty_queue, added, taken, cancelled};
+ghost use Rattle.queue.specs.Calls.{new_job, empty_queue, added, taken, cancelled, job_or_zero};
+ghost use Rattle.refusals.specs.Refusals.{code_of};
 
 use queue::{Job, Queue};
+use refusals::Refusal;
 
 // Makes the queue one in which nothing waits, whatever it held.
 pub fn trpc_queue_init(q: &mut Queue)
@@ -37,7 +38,33 @@ pub fn trpc_queue_add(
     };
     let added = queue::add(*q, job);
     *q = added.queue;
-    added.error
+    code(added.answer)
+}
+
+// The number of a refusal, and 0 where there is none.
+fn code(answer: Result<(), Refusal>) -> u32
+    ensures { result ≡ code_of answer }
+{
+    match answer {
+        Ok(()) => 0,
+        Err(refusal) => refusal.number(),
+    }
+}
+
+// Stores the job that `take` or `cancel` answered, of a refusal one that is all zero, and gives the number.
+fn store(removed: &mut Job, job: Result<Job, Refusal>) -> u32
+    ensures { (removed.new ≡ job_or_zero job) × (result ≡ code_of job) }
+{
+    match job {
+        Ok(j) => {
+            *removed = j;
+            0
+        }
+        Err(refusal) => {
+            *removed = Job::default();
+            refusal.number()
+        }
+    }
 }
 
 // Removes the job that is due first, of several the one accepted first.
@@ -46,8 +73,7 @@ pub fn trpc_queue_take(q: &mut Queue, removed: &mut Job) -> u32
 {
     let taken = queue::take(*q);
     *q = taken.queue;
-    *removed = taken.job;
-    taken.error
+    store(removed, taken.job)
 }
 
 // Removes the job of a pair.
@@ -57,6 +83,5 @@ pub fn trpc_queue_cancel(q: &mut Queue, connection: u32, request: u32, removed: 
 {
     let cancelled = queue::cancel(*q, connection, request);
     *q = cancelled.queue;
-    *removed = cancelled.job;
-    cancelled.error
+    store(removed, cancelled.job)
 }

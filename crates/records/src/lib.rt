@@ -10,7 +10,6 @@ ghost use Rattle.records.specs.Content.{kind_of, record_id, record_version, row_
 
 use records::{close_of, init_of, request_of, response_of};
 use schema::Kind;
-use slots::{close_slots, feedback_slots, init_slots, request_slots, response_slots};
 
 // A byte field: where it starts in the frame, and how long it is; an empty one is 0, 0.
 #[derive(Clone, Copy)]
@@ -56,6 +55,7 @@ pub struct Response {
 
 #[derive(Clone, Copy)]
 pub struct RequestMeta {
+    // A mark beside the fields, as in document 01: refusal 18 is of a part that is marked absent and not empty.
     pub present: bool,
     pub caller: Span,
     pub callee: Span,
@@ -153,6 +153,7 @@ pub fn record_of(kind: Kind, id: u32, header_version: u8, v: [u32; 16], rows: u3
 }
 
 // What a record of this kind is beside its fields.
+// The six records have these fields in types of their own, so that each case of `slots_of` passes them.
 fn beside(kind: Kind, id: u32, header_version: u8, rows: u32) -> Outline
     ensures { (result.kind ≡ kind) × (result.id ≡ id) × (result.header_version ≡ header_version) × (result.rows ≡ rows) }
 {
@@ -172,15 +173,15 @@ pub fn slots_of(record: Record, slots: &mut [u32; 16]) -> Outline
 {
     match record {
         Record::Request(r) => {
-            *slots = request_slots(r);
+            *slots = r.into();
             beside(Kind::Request, r.id, r.header_version, r.rows)
         }
         Record::Response(r) => {
-            *slots = response_slots(r);
+            *slots = r.into();
             beside(Kind::Response, r.id, r.header_version, r.rows)
         }
         Record::Init(r) => {
-            *slots = init_slots(r);
+            *slots = r.into();
             beside(Kind::Init, r.id, r.header_version, r.rows)
         }
         Record::Data(r) => {
@@ -188,11 +189,11 @@ pub fn slots_of(record: Record, slots: &mut [u32; 16]) -> Outline
             beside(Kind::Data, r.id, r.header_version, r.rows)
         }
         Record::Feedback(r) => {
-            *slots = feedback_slots(r);
+            *slots = r.into();
             beside(Kind::Feedback, r.id, r.header_version, r.rows)
         }
         Record::Close(r) => {
-            *slots = close_slots(r);
+            *slots = r.into();
             beside(Kind::Close, r.id, r.header_version, r.rows)
         }
     }

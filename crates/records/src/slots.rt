@@ -1,137 +1,109 @@
 // The slots of each kind that has fields.
-#![tactic(auto, unfolding(crate::specs::Content::slots_of))]
+#![tactic(auto, using(crate::proofs::Signed::bits_back), unfolding(crate::specs::Content::slots_of))]
 
-ghost use Rattle.std.specs.Prelude.{◌≡◌};
+ghost use Rattle.std.specs.Prelude.{◌≡◌, ◌++◌, ◌-◌, ◌≤◌, replicate};
 ghost use Rattle.records.specs.declared.Record.TheVariants as records;
-ghost use Rattle.records.specs.Content.{bits, mark, slots_of};
+ghost use Rattle.records.specs.Content.{slots_of};
 
 use crate::{Close, Feedback, Init, Request, Response};
 
-// The 32 bits of an int32.
-fn bits_of(v: i32) -> u32
-    ensures { result ≡ bits v }
+// The first slots, and zeros after them.
+fn padded<const N: usize>(first: &[u32; N]) -> [u32; 16]
+    requires { N ≤ 16 }
+    ensures { result ≡ first.now ++ replicate (16 - N) 0 }
 {
-    wire_read::low_u32(wire_write::sign_extend(v))
+    let mut slots = [0; 16];
+    slots[..N].copy_from_slice(first);
+    slots
 }
 
-fn mark_of(present: bool) -> u32
-    ensures { result ≡ mark present }
-{
-    if present { 1 } else { 0 }
+impl From<Request> for [u32; 16] {
+    ghost from_gives = { λ r s. s ≡ slots_of (records.Request r) };
+
+    fn from(r: Request) -> [u32; 16] {
+        padded(&[
+            r.version,
+            r.call_type,
+            r.request_id,
+            r.timeout,
+            r.caller.start,
+            r.caller.len,
+            r.callee.start,
+            r.callee.len,
+            r.func.start,
+            r.func.len,
+            r.message_type,
+            r.content_type,
+            r.content_encoding,
+            r.attachment_size,
+        ])
+    }
 }
 
-pub(crate) fn request_slots(r: Request) -> [u32; 16]
-    ensures { result ≡ slots_of (records.Request r) }
-{
-    [
-        r.version,
-        r.call_type,
-        r.request_id,
-        r.timeout,
-        r.caller.start,
-        r.caller.len,
-        r.callee.start,
-        r.callee.len,
-        r.func.start,
-        r.func.len,
-        r.message_type,
-        r.content_type,
-        r.content_encoding,
-        r.attachment_size,
-        0,
-        0,
-    ]
+impl From<Response> for [u32; 16] {
+    ghost from_gives = { λ r s. s ≡ slots_of (records.Response r) };
+
+    fn from(r: Response) -> [u32; 16] {
+        padded(&[
+            r.version,
+            r.call_type,
+            r.request_id,
+            r.ret.cast_unsigned(),
+            r.func_ret.cast_unsigned(),
+            r.error_msg.start,
+            r.error_msg.len,
+            r.message_type,
+            r.content_type,
+            r.content_encoding,
+            r.attachment_size,
+        ])
+    }
 }
 
-pub(crate) fn response_slots(r: Response) -> [u32; 16]
-    ensures { result ≡ slots_of (records.Response r) }
-{
-    [
-        r.version,
-        r.call_type,
-        r.request_id,
-        bits_of(r.ret),
-        bits_of(r.func_ret),
-        r.error_msg.start,
-        r.error_msg.len,
-        r.message_type,
-        r.content_type,
-        r.content_encoding,
-        r.attachment_size,
-        0,
-        0,
-        0,
-        0,
-        0,
-    ]
+impl From<Init> for [u32; 16] {
+    ghost from_gives = { λ r s. s ≡ slots_of (records.Init r) };
+
+    fn from(r: Init) -> [u32; 16] {
+        let response = r.response_meta;
+        padded(&[
+            u32::from(r.request_meta.present),
+            r.request_meta.caller.start,
+            r.request_meta.caller.len,
+            r.request_meta.callee.start,
+            r.request_meta.callee.len,
+            r.request_meta.func.start,
+            r.request_meta.func.len,
+            r.request_meta.message_type,
+            u32::from(response.present),
+            response.ret.cast_unsigned(),
+            response.error_msg.start,
+            response.error_msg.len,
+            r.init_window_size,
+            r.content_type,
+            r.content_encoding,
+        ])
+    }
 }
 
-pub(crate) fn init_slots(r: Init) -> [u32; 16]
-    ensures { result ≡ slots_of (records.Init r) }
-{
-    let response = r.response_meta;
-    [
-        mark_of(r.request_meta.present),
-        r.request_meta.caller.start,
-        r.request_meta.caller.len,
-        r.request_meta.callee.start,
-        r.request_meta.callee.len,
-        r.request_meta.func.start,
-        r.request_meta.func.len,
-        r.request_meta.message_type,
-        mark_of(response.present),
-        bits_of(response.ret),
-        response.error_msg.start,
-        response.error_msg.len,
-        r.init_window_size,
-        r.content_type,
-        r.content_encoding,
-        0,
-    ]
+impl From<Feedback> for [u32; 16] {
+    ghost from_gives = { λ r s. s ≡ slots_of (records.Feedback r) };
+
+    fn from(r: Feedback) -> [u32; 16] {
+        padded(&[r.window_size_increment])
+    }
 }
 
-pub(crate) fn feedback_slots(r: Feedback) -> [u32; 16]
-    ensures { result ≡ slots_of (records.Feedback r) }
-{
-    [
-        r.window_size_increment,
-        0,
-        0,
-        0,
-        0,
-        0,
-        0,
-        0,
-        0,
-        0,
-        0,
-        0,
-        0,
-        0,
-        0,
-        0,
-    ]
-}
+impl From<Close> for [u32; 16] {
+    ghost from_gives = { λ r s. s ≡ slots_of (records.Close r) };
 
-pub(crate) fn close_slots(r: Close) -> [u32; 16]
-    ensures { result ≡ slots_of (records.Close r) }
-{
-    [
-        bits_of(r.close_type),
-        bits_of(r.ret),
-        r.msg.start,
-        r.msg.len,
-        r.message_type,
-        bits_of(r.func_ret),
-        0,
-        0,
-        0,
-        0,
-        0,
-        0,
-        0,
-        0,
-        0,
-        0,
-    ]
+    fn from(r: Close) -> [u32; 16] {
+        padded(&[
+            r.close_type.cast_unsigned(),
+            r.ret.cast_unsigned(),
+            r.msg.start,
+            r.msg.len,
+            r.message_type,
+            r.func_ret.cast_unsigned(),
+        ])
+    }
 }

@@ -1,6 +1,4 @@
--- For the proofs of this crate's functions
-mod FieldLaws
--- For the layers above, too
+-- For the layers above
 pub mod KindLaws
 -- Demand 1, of every public entry
 pub mod AsksNothing

@@ -1,4 +1,6 @@
 // The fields of each message by their numbers, with the slots that they are read to.
+#![tactic(auto, using(std::proofs::lemmas::Bool::Decides::nat_tests), unfolding(crate::specs::Targets::look, crate::specs::Schema::width, crate::specs::Schema::slot_at, crate::specs::Schema::part_schema))]
+
 ghost use Rattle.std.specs.Prelude.{◌≡◌};
 ghost use Rattle.schema.specs.Schema.{request, response, init, feedback, close, request_meta, response_meta};
 ghost use Rattle.schema.specs.Targets.{look, target_of, Fit};

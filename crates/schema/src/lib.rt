@@ -14,17 +14,18 @@ use fields::{
 };
 
 // What the caller expects a frame to be. A unary frame does not say whether it is a request or a response.
-#[derive(Clone, Copy)]
+#[derive(Clone, Copy, Debug, PartialEq, Eq)]
 pub enum Kind {
-    Request,
-    Response,
-    Init,
-    Data,
-    Feedback,
-    Close,
+    Request = 0,
+    Response = 1,
+    Init = 2,
+    Data = 3,
+    Feedback = 4,
+    Close = 5,
 }
 
 // The schema numbers: the messages, and the two parts of Init. Data has no fields, nor has a message of any other number.
+// They are numbers and no enum, since `field_target` and `message_schema` take every number.
 pub const REQUEST: u32 = 0;
 
 pub const RESPONSE: u32 = 1;
@@ -53,20 +54,16 @@ pub enum Target {
 }
 
 // The schema number of a kind's message.
+// No From: its name says which number it is.
 pub fn schema_number(kind: Kind) -> u32
     ensures { result ≡ schema_number kind }
 {
-    match kind {
-        Kind::Request => REQUEST,
-        Kind::Response => RESPONSE,
-        Kind::Init => INIT,
-        Kind::Data => DATA,
-        Kind::Feedback => FEEDBACK,
-        Kind::Close => CLOSE,
-    }
+    kind as u32
 }
 
 // The field of this number in the message that a schema number names.
+// A match and no table of functions: each arm has the contract of its own message.
+#[tactic(auto, using(std::proofs::lemmas::Bool::Decides::nat_tests), unfolding(crate::specs::Targets::look, crate::specs::Schema::schema_at, crate::specs::Schema::part_schema, crate::specs::Schema::slot_at))]
 pub fn field_target(schema: u32, number: u32) -> Target
     ensures { (look (part_schema schema) (slot_at schema) number ≡ target_of result) × Fit result }
 {
@@ -83,6 +80,7 @@ pub fn field_target(schema: u32, number: u32) -> Target
 }
 
 // A caller names a message and no part of one: another number is a message that has no fields.
+#[tactic(auto, using(std::proofs::lemmas::Bool::Decides::nat_tests))]
 pub fn message_schema(schema: u32) -> u32
     ensures { result ≡ message_number schema }
 {

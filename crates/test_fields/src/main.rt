@@ -2,56 +2,55 @@
 // standard input as `protoc --decode_raw` prints them, so that its file `stdout`, which is protoc's
 // own output, is compared to the byte. tests/protoc/make-corpus makes both files.
 //
-// Standard input is labels and strings by turns. For each string the program writes `# LABEL`, then
-// a line for each field, or `refused N` with the error code N where it is not fields to its end.
+// Standard input is labels and strings by turns, each after its length in two bytes, big-endian. For
+// each string the program writes `# LABEL`, then a line for each field, or `refused N` with the error
+// code N where it is not fields to its end.
 #![tactic(auto)]
 
-mod input;
-mod lines;
-mod print;
+mod escaped;
+mod fields;
 
-use input::{Input, read_part};
-use lines::{print_label, print_refused};
-use print::{error_code, print_fields};
-use std::io::{Stdin, Stdout};
+use fields::{print_fields, refusal};
+use std::io;
+use std::io::{Stdin, Stdout, Write};
+use test_cases::read_part;
+use text::Printer;
 
-fn print_string(out: Stdout, label: &[u8], label_end: usize, s: &[u8], end: usize) {
-    print_label(out, label, label_end);
-    let code = error_code(s, end);
-    if code == 0 {
-        print_fields(out, 0, s, 0, end);
-    } else {
-        print_refused(out, code);
-    }
+// The next part of the input. One that is cut off, or that the buffer cannot hold, counts as none.
+fn next_part(from: Stdin, buffer: &mut [u8]) -> Option<&[u8]> {
+    let mut length = [0; 2];
+    read_part(from, &mut length, 2)?;
+    Some(read_part(from, buffer, usize::from(u16::from_be_bytes(length)))?)
 }
 
-// Prints the next string of the input, and answers whether there was one.
-fn print_next(from: Stdin, out: Stdout, label: &mut [u8], string: &mut [u8]) -> bool {
-    let first = read_part(from, label);
-    let second = read_part(from, string);
-    match first {
-        Input::End => false,
-        Input::Bytes(label_end) => match second {
-            Input::End => false,
-            Input::Bytes(end) => {
-                print_string(out, label, label_end, string, end);
-                true
-            }
-        },
+fn print_string(out: Stdout, label: &[u8], string: &[u8]) -> io::Result<()> {
+    let mut space = [0; 4096];
+    let mut out = Printer::new(out, &mut space);
+    out.write_all(b"# ")?;
+    out.write_all(label)?;
+    out.write_all(b"\n")?;
+    match refusal(string) {
+        None => print_fields(&mut out, 0, string)?,
+        Some(refusal) => writeln!(out, "refused {}", refusal.number())?,
     }
+    out.flush()
 }
 
-// A proved loop has to end, and nothing says that the input does: `turns` falls, from a number that
-// no run uses up.
-fn print_all(from: Stdin, out: Stdout, label: &mut [u8], string: &mut [u8]) {
-    let mut turns = u64::MAX;
-    while turns > 0 && print_next(from, out, label, string) {
-        turns -= 1;
-    }
+// Prints the next string of the input; nothing where there is none. Whether a write failed is dropped.
+fn print_next(from: Stdin, out: Stdout, label: &mut [u8], string: &mut [u8]) -> Option<()> {
+    let label = next_part(from, label)?;
+    let string = next_part(from, string)?;
+    let _ = print_string(out, label, string);
+    Some(())
 }
 
+// A proved loop has to end, and nothing says that the input does: no run has as many turns.
 fn main(rt: HostRuntime) {
-    let mut label = [0u8; 4096];
-    let mut string = [0u8; 4096];
-    print_all(rt.stdin(), rt.stdout(), &mut label, &mut string);
+    let mut label = [0; 4096];
+    let mut string = [0; 4096];
+    for _ in 0..u64::MAX {
+        if print_next(rt.stdin(), rt.stdout(), &mut label, &mut string).is_none() {
+            break;
+        }
+    }
 }

@@ -7,6 +7,7 @@ use std::io;
 use std::io::Stdout;
 
 // The queue with one job more, of arrival 0.
+// Not shared with `test_queue`: it is one call, of jobs that differ.
 fn with_job(q: Queue, request: u32, timeout: u32) -> Queue {
     let job = Job {
         connection: 1,
@@ -15,14 +16,13 @@ fn with_job(q: Queue, request: u32, timeout: u32) -> Queue {
         zero: 0,
         arrival: 0,
     };
-    let added = queue::add(q, job);
-    added.queue
+    queue::add(q, job).queue
 }
 
 // Takes a job and prints its timeout.
 fn print_next(out: Stdout, q: Queue) -> io::Result<Queue> {
     let removed = queue::take(q);
-    out.println(removed.job.timeout)?;
+    out.println(removed.job.unwrap_or(Job::default()).timeout)?;
     Ok(removed.queue)
 }
 

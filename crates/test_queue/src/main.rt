@@ -2,6 +2,7 @@
 #![tactic(auto)]
 
 use queue::{Job, Queue};
+use refusals::Refusal;
 use std::io;
 use std::io::Stdout;
 
@@ -21,35 +22,42 @@ fn job(request: u32, timeout: u32, arrival: u64) -> Job {
 
 // The queue with a job more.
 fn with_job(q: Queue, j: Job) -> Queue {
-    let added = queue::add(q, j);
-    added.queue
+    queue::add(q, j).queue
+}
+
+// The number of a refusal, and 0 where there is none.
+fn code<T: Copy>(answer: Result<T, Refusal>) -> u32 {
+    match answer {
+        Ok(_) => 0,
+        Err(refusal) => refusal.number(),
+    }
+}
+
+// The request id of the job removed, and 0 of a refusal.
+fn request(job: Result<Job, Refusal>) -> u32 {
+    job.unwrap_or(Job::default()).request
 }
 
 // What add, take and cancel of a pair that doesn't wait answer.
 fn print_errors(out: Stdout, q: Queue, j: Job) -> io::Result<()> {
-    let added = queue::add(q, j);
-    print(out, "  add ", added.error)?;
-    let taken = queue::take(q);
-    print(out, "  take ", taken.error)?;
-    let cancelled = queue::cancel(q, 8, 0);
-    print(out, "  cancel ", cancelled.error)
+    print(out, "  add ", code(queue::add(q, j).answer))?;
+    print(out, "  take ", code(queue::take(q).job))?;
+    print(out, "  cancel ", code(queue::cancel(q, 8, 0).job))
 }
 
 // The request ids in the order in which two jobs are taken.
 fn print_order(out: Stdout, q: Queue) -> io::Result<()> {
     let first = queue::take(q);
-    print(out, "  first ", first.job.request)?;
+    print(out, "  first ", request(first.job))?;
     let second = queue::take(first.queue);
-    print(out, "  second ", second.job.request)
+    print(out, "  second ", request(second.job))
 }
 
 // A queue in which 64 jobs wait, request ids 0 to 63.
 fn full() -> Queue {
     let mut q = queue::empty();
-    let mut i: u32 = 0;
-    while i < 64 {
-        q = with_job(q, job(i, 1, 0));
-        i += 1;
+    for request in 0..64 {
+        q = with_job(q, job(request, 1, 0));
     }
     q
 }
@@ -84,7 +92,7 @@ fn grounds_of_add(out: Stdout) -> io::Result<()> {
     out.println("one was taken")?;
     print_errors(out, taken.queue, job(64, 0, 0))?;
     let cancelled = queue::cancel(q, 7, 63);
-    print(out, "  cancelled ", cancelled.job.request)?;
+    print(out, "  cancelled ", request(cancelled.job))?;
     print_errors(out, cancelled.queue, job(63, 0, 0))
 }
 
@@ -138,7 +146,7 @@ fn main(rt: HostRuntime) -> io::Result<()> {
     out.println("nothing waits")?;
     print_errors(out, queue::empty(), job(0, 0, 0))?;
     let refused = queue::take(queue::empty());
-    print(out, "  job ", refused.job.request)?;
+    print(out, "  job ", request(refused.job))?;
     invalid_queues(out)?;
     grounds_of_add(out)?;
     orders(out)

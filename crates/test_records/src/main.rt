@@ -7,24 +7,27 @@
 // became of the row numbers that were lent.
 #![tactic(auto)]
 
-mod input;
-mod lines;
+mod head;
 mod numbers;
+mod parts;
 mod record;
 
-use input::{Head, Input, read_head, read_part};
-use lines::{print_label, print_lines};
-use message::{Answer, Located, read_spans};
-use numbers::{fill, print_numbers, small};
-use record::{print_record, rows_of};
-use records::{Record, Span};
+use head::Head;
+use message::read_spans;
+use numbers::{LENT, write_numbers};
+use parts::{Bytes, Part};
+use record::{rows_of, write_line, write_record};
 use schema::Kind;
-use std::io::{Stdin, Stdout};
+use std::io;
+use std::io::{Stdin, Stdout, Write};
+use test_cases::read_part;
+use text::Printer;
 
 // The ceiling that frames are read under: document 01's largest frame.
 const CEILING: u32 = 65536;
 
 // What the input calls the kinds.
+// No From: the type is of `schema`, and these numbers are only this input's.
 fn kind_of(number: u8) -> Kind {
     match number {
         0 => Kind::Request,
@@ -43,111 +46,84 @@ fn body_part<'a, 'b>(kind: Kind, frame: &'a [u8], ceiling: u32, rows: &'b mut [u
     reading.body
 }
 
-// Reads a frame and prints its parts, its record or the error code, and its rows. Reading it again leaves the row numbers as they are.
-fn print_frame(out: Stdout, kind: Kind, frame: &[u8], rows: &mut [u32]) {
-    fill(rows);
+// Reads a frame and writes its parts, its record or the error code, and its rows. Reading it again leaves the row numbers as they are.
+fn write_frame(out: &mut Printer, kind: Kind, frame: &[u8], rows: &mut [u32]) {
+    rows.fill(LENT);
     let located = read_spans(kind, frame, CEILING, rows);
-    print_parts(out, located, body_part(kind, frame, CEILING, rows), frame);
-    print_answer(out, answer_of(located), frame, rows);
-}
-
-fn answer_of(located: Located) -> Answer {
-    located.answer
-}
-
-fn print_parts(out: Stdout, located: Located, body: &[u8], frame: &[u8]) {
-    print_part(out, b"header=", located.header, frame);
-    print_body(out, body);
-    print_part(out, b"attachment=", located.attachment, frame);
-}
-
-fn print_part(out: Stdout, name: &[u8], span: Span, frame: &[u8]) {
-    let values = [span.start, span.len];
-    print_lines(out, name, &values, frame);
-}
-
-fn print_body(out: Stdout, body: &[u8]) {
-    let values = [0, small(body.len())];
-    print_lines(out, b"body=", &values, body);
-}
-
-fn print_answer(out: Stdout, answer: Answer, frame: &[u8], rows: &[u32]) {
-    match answer {
-        Answer::Read(record) => print_read(out, record, frame, rows),
-        Answer::Refused(code) => print_refused(out, code, frame, rows),
-    }
-}
-
-fn print_read(out: Stdout, record: Record, frame: &[u8], rows: &[u32]) {
-    print_record(out, record, frame);
-    print_numbers(out, rows_of(record), frame, rows);
-}
-
-fn print_refused(out: Stdout, code: u32, frame: &[u8], rows: &[u32]) {
-    let values = [code];
-    print_lines(out, b"refused%", &values, frame);
-    print_numbers(out, 0, frame, rows);
-}
-
-// Prints a case, and answers whether it was whole.
-fn print_case(
-    from: Stdin,
-    out: Stdout,
-    head: Head,
-    label: &mut [u8],
-    frame: &mut [u8],
-    rows: &mut [u32],
-) -> bool {
-    let length = head.label;
-    let size = head.size;
-    let lent = head.lent;
-    if !read_part(from, label, length) {
-        return false;
-    }
-    if !read_part(from, frame, size) {
-        return false;
-    }
-    if length > label.len() || size > frame.len() || lent > rows.len() {
-        return false;
-    }
-    let start = 0;
-    print_label(out, &label[start..length]);
-    print_frame(
+    let header = Part {
+        span: located.header,
+        frame,
+    };
+    let attachment = Part {
+        span: located.attachment,
+        frame,
+    };
+    let body = body_part(kind, frame, CEILING, rows);
+    let length = body.len();
+    write_line(out, "header", header.bytes());
+    write_line(
         out,
-        kind_of(head.kind),
-        &frame[start..size],
-        &mut rows[start..lent],
+        "body",
+        Bytes {
+            length,
+            bytes: body,
+        },
     );
-    true
+    write_line(out, "attachment", attachment.bytes());
+    match located.answer {
+        Ok(record) => {
+            write_record(out, record, frame);
+            write_numbers(out, rows_of(record), frame, rows);
+        }
+        Err(refusal) => {
+            write_line(out, "refused", refusal.number());
+            write_numbers(out, 0, frame, rows);
+        }
+    }
 }
 
-// Prints the next case of the input, and answers whether there was one.
+fn print_case(
+    out: Stdout,
+    label: &[u8],
+    kind: Kind,
+    frame: &[u8],
+    rows: &mut [u32],
+) -> io::Result<()> {
+    let mut space = [0; 4096];
+    let mut out = Printer::new(out, &mut space);
+    out.write_all(b"# ")?;
+    out.write_all(label)?;
+    out.write_all(b"\n")?;
+    write_frame(&mut out, kind, frame, rows);
+    out.flush()
+}
+
+// Prints the next case of the input; nothing where there is none that is whole. Whether a write failed is dropped.
 fn print_next(
     from: Stdin,
     out: Stdout,
     label: &mut [u8],
     frame: &mut [u8],
     rows: &mut [u32],
-) -> bool {
-    let input = read_head(from);
-    match input {
-        Input::End => false,
-        Input::Case(head) => print_case(from, out, head, label, frame, rows),
-    }
+) -> Option<()> {
+    let mut bytes = [0; 8];
+    read_part(from, &mut bytes, 8)?;
+    let head = Head::from(bytes);
+    let label = read_part(from, label, head.label)?;
+    let frame = read_part(from, frame, head.size)?;
+    let rows = rows.get_mut(..head.lent)?;
+    let _ = print_case(out, label, kind_of(head.kind), frame, rows);
+    Some(())
 }
 
-// A proved loop has to end, and nothing says that the input does: `turns` falls, from a number that
-// no run uses up.
-fn print_all(from: Stdin, out: Stdout, label: &mut [u8], frame: &mut [u8], rows: &mut [u32]) {
-    let mut turns = u64::MAX;
-    while turns > 0 && print_next(from, out, label, frame, rows) {
-        turns -= 1;
-    }
-}
-
+// A proved loop has to end, and nothing says that the input does: no run has as many turns.
 fn main(rt: HostRuntime) {
-    let mut label = [0u8; 255];
-    let mut frame = [0u8; 65536];
-    let mut rows = [0u32; 300];
-    print_all(rt.stdin(), rt.stdout(), &mut label, &mut frame, &mut rows);
+    let mut label = [0; 255];
+    let mut frame = [0; 65536];
+    let mut rows = [0; 300];
+    for _ in 0..u64::MAX {
+        if print_next(rt.stdin(), rt.stdout(), &mut label, &mut frame, &mut rows).is_none() {
+            break;
+        }
+    }
 }

@@ -1,16 +1,30 @@
 // A record: a line with its kind and id, one with its version, and one for each of its fields, in the order of source document 000.
-use crate::lines::print_lines;
-use records::{Close, Data, Feedback, Init, Record, Request, RequestMeta, Response, ResponseMeta};
-use std::io::Stdout;
+use crate::parts::Part;
+use records::{
+    Close, Data, Feedback, Init, Record, Request, RequestMeta, Response, ResponseMeta, Span,
+};
+use std::fmt::Display;
+use std::io::Write;
+use text::Printer;
 
-pub(crate) fn print_record(out: Stdout, record: Record, frame: &[u8]) {
+// The line `NAME VALUE`. A printer drops whether a write failed.
+pub(crate) fn write_line<D: Display + Drop>(out: &mut Printer, name: &str, value: D) {
+    let _ = writeln!(out, "{name} {value}");
+}
+
+// The same of a part of the frame.
+fn write_part(out: &mut Printer, name: &str, span: Span, frame: &[u8]) {
+    write_line(out, name, Part { span, frame });
+}
+
+pub(crate) fn write_record(out: &mut Printer, record: Record, frame: &[u8]) {
     match record {
-        Record::Request(r) => print_request(out, r, frame),
-        Record::Response(r) => print_response(out, r, frame),
-        Record::Init(r) => print_init(out, r, frame),
-        Record::Data(r) => print_data(out, r, frame),
-        Record::Feedback(r) => print_feedback(out, r, frame),
-        Record::Close(r) => print_close(out, r, frame),
+        Record::Request(r) => write_request(out, r, frame),
+        Record::Response(r) => write_response(out, r, frame),
+        Record::Init(r) => write_init(out, r, frame),
+        Record::Data(r) => write_data(out, r),
+        Record::Feedback(r) => write_feedback(out, r),
+        Record::Close(r) => write_close(out, r, frame),
     }
 }
 
@@ -25,154 +39,88 @@ pub(crate) fn rows_of(record: Record) -> u32 {
     }
 }
 
-fn print_first(out: Stdout, names: &[u8], id: u32, version: u8, frame: &[u8]) {
-    let values = [id, version as u32];
-    print_lines(out, names, &values, frame);
+fn write_request(out: &mut Printer, r: Request, frame: &[u8]) {
+    write_line(out, "request", r.id);
+    write_line(out, "header_version", r.header_version);
+    write_line(out, "version", r.version);
+    write_line(out, "call_type", r.call_type);
+    write_line(out, "request_id", r.request_id);
+    write_line(out, "timeout", r.timeout);
+    write_part(out, "caller", r.caller, frame);
+    write_part(out, "callee", r.callee, frame);
+    write_part(out, "func", r.func, frame);
+    write_line(out, "message_type", r.message_type);
+    write_line(out, "content_type", r.content_type);
+    write_line(out, "content_encoding", r.content_encoding);
+    write_line(out, "attachment_size", r.attachment_size);
+    write_line(out, "rows", r.rows);
 }
 
-fn print_request(out: Stdout, r: Request, frame: &[u8]) {
-    print_first(
-        out,
-        b"request%header_version%",
-        r.id,
-        r.header_version,
-        frame,
-    );
-    let values = [
-        r.version,
-        r.call_type,
-        r.request_id,
-        r.timeout,
-        r.caller.start,
-        r.caller.len,
-        r.callee.start,
-        r.callee.len,
-        r.func.start,
-        r.func.len,
-        r.message_type,
-        r.content_type,
-        r.content_encoding,
-        r.attachment_size,
-        r.rows,
-    ];
-    let names =
-        b"version%call_type%request_id%timeout%caller$callee$func$message_type%content_type%content_encoding%attachment_size%rows%";
-    print_lines(out, names, &values, frame);
+fn write_response(out: &mut Printer, r: Response, frame: &[u8]) {
+    write_line(out, "response", r.id);
+    write_line(out, "header_version", r.header_version);
+    write_line(out, "version", r.version);
+    write_line(out, "call_type", r.call_type);
+    write_line(out, "request_id", r.request_id);
+    write_line(out, "ret", r.ret);
+    write_line(out, "func_ret", r.func_ret);
+    write_part(out, "error_msg", r.error_msg, frame);
+    write_line(out, "message_type", r.message_type);
+    write_line(out, "content_type", r.content_type);
+    write_line(out, "content_encoding", r.content_encoding);
+    write_line(out, "attachment_size", r.attachment_size);
+    write_line(out, "rows", r.rows);
 }
 
-fn print_response(out: Stdout, r: Response, frame: &[u8]) {
-    print_first(
-        out,
-        b"response%header_version%",
-        r.id,
-        r.header_version,
-        frame,
-    );
-    let values = [
-        r.version,
-        r.call_type,
-        r.request_id,
-        bits(r.ret),
-        bits(r.func_ret),
-        r.error_msg.start,
-        r.error_msg.len,
-        r.message_type,
-        r.content_type,
-        r.content_encoding,
-        r.attachment_size,
-        r.rows,
-    ];
-    let names =
-        b"version%call_type%request_id%ret-func_ret-error_msg$message_type%content_type%content_encoding%attachment_size%rows%";
-    print_lines(out, names, &values, frame);
+fn write_init(out: &mut Printer, r: Init, frame: &[u8]) {
+    write_line(out, "init", r.id);
+    write_line(out, "header_version", r.header_version);
+    write_request_meta(out, r.request_meta, frame);
+    write_response_meta(out, r.response_meta, frame);
+    write_line(out, "init_window_size", r.init_window_size);
+    write_line(out, "content_type", r.content_type);
+    write_line(out, "content_encoding", r.content_encoding);
+    write_line(out, "rows", r.rows);
 }
 
-fn print_init(out: Stdout, r: Init, frame: &[u8]) {
-    print_first(out, b"init%header_version%", r.id, r.header_version, frame);
-    print_request_meta(out, r.request_meta, frame);
-    print_response_meta(out, r.response_meta, frame);
-    print_init_end(out, r, frame);
+fn write_request_meta(out: &mut Printer, meta: RequestMeta, frame: &[u8]) {
+    write_line(out, "request_meta", mark(meta.present));
+    write_part(out, "request_meta.caller", meta.caller, frame);
+    write_part(out, "request_meta.callee", meta.callee, frame);
+    write_part(out, "request_meta.func", meta.func, frame);
+    write_line(out, "request_meta.message_type", meta.message_type);
 }
 
-fn print_init_end(out: Stdout, r: Init, frame: &[u8]) {
-    let values = [
-        r.init_window_size,
-        r.content_type,
-        r.content_encoding,
-        r.rows,
-    ];
-    print_lines(
-        out,
-        b"init_window_size%content_type%content_encoding%rows%",
-        &values,
-        frame,
-    );
+fn write_response_meta(out: &mut Printer, meta: ResponseMeta, frame: &[u8]) {
+    write_line(out, "response_meta", mark(meta.present));
+    write_line(out, "response_meta.ret", meta.ret);
+    write_part(out, "response_meta.error_msg", meta.error_msg, frame);
 }
 
-fn print_request_meta(out: Stdout, meta: RequestMeta, frame: &[u8]) {
-    let values = [
-        mark(meta.present),
-        meta.caller.start,
-        meta.caller.len,
-        meta.callee.start,
-        meta.callee.len,
-        meta.func.start,
-        meta.func.len,
-        meta.message_type,
-    ];
-    let names =
-        b"request_meta?request_meta.caller$request_meta.callee$request_meta.func$request_meta.message_type%";
-    print_lines(out, names, &values, frame);
+fn mark(present: bool) -> &'static str {
+    if present { "present" } else { "absent" }
 }
 
-fn print_response_meta(out: Stdout, meta: ResponseMeta, frame: &[u8]) {
-    let values = [
-        mark(meta.present),
-        bits(meta.ret),
-        meta.error_msg.start,
-        meta.error_msg.len,
-    ];
-    let names = b"response_meta?response_meta.ret-response_meta.error_msg$";
-    print_lines(out, names, &values, frame);
+fn write_data(out: &mut Printer, r: Data) {
+    write_line(out, "data", r.id);
+    write_line(out, "header_version", r.header_version);
+    write_line(out, "rows", r.rows);
 }
 
-fn mark(present: bool) -> u32 {
-    if present { 1 } else { 0 }
+fn write_feedback(out: &mut Printer, r: Feedback) {
+    write_line(out, "feedback", r.id);
+    write_line(out, "header_version", r.header_version);
+    write_line(out, "window_size_increment", r.window_size_increment);
+    write_line(out, "rows", r.rows);
 }
 
-fn print_data(out: Stdout, r: Data, frame: &[u8]) {
-    print_first(out, b"data%header_version%", r.id, r.header_version, frame);
-    let values = [r.rows];
-    print_lines(out, b"rows%", &values, frame);
-}
-
-fn print_feedback(out: Stdout, r: Feedback, frame: &[u8]) {
-    print_first(
-        out,
-        b"feedback%header_version%",
-        r.id,
-        r.header_version,
-        frame,
-    );
-    let values = [r.window_size_increment, r.rows];
-    print_lines(out, b"window_size_increment%rows%", &values, frame);
-}
-
-fn print_close(out: Stdout, r: Close, frame: &[u8]) {
-    print_first(out, b"close%header_version%", r.id, r.header_version, frame);
-    let values = [
-        bits(r.close_type),
-        bits(r.ret),
-        r.msg.start,
-        r.msg.len,
-        r.message_type,
-        bits(r.func_ret),
-        r.rows,
-    ];
-    let names = b"close_type-ret-msg$message_type%func_ret-rows%";
-    print_lines(out, names, &values, frame);
-}
-
-fn bits(v: i32) -> u32 {
-    wire_read::low_u32(wire_write::sign_extend(v))
+fn write_close(out: &mut Printer, r: Close, frame: &[u8]) {
+    write_line(out, "close", r.id);
+    write_line(out, "header_version", r.header_version);
+    write_line(out, "close_type", r.close_type);
+    write_line(out, "ret", r.ret);
+    write_part(out, "msg", r.msg, frame);
+    write_line(out, "message_type", r.message_type);
+    write_line(out, "func_ret", r.func_ret);
+    write_line(out, "rows", r.rows);
 }

@@ -1,83 +1,80 @@
 // Numbers and bytes on standard input. A number is four bytes, big-endian.
-ghost use Rattle.std.specs.Prelude.{◌<◌, ◌≤◌, length};
+use std::io::Stdin;
+use test_cases::read_part;
 
-use std::io::{Read, Stdin};
-
+// The lengths of a case's label, of the row numbers that are lent, of the source, of the body and of the output; how many bytes of the
+// source and of the body are given, which are repeated up to the length; the kind, the id, the row count and the version.
+// The kind is the number that came: the one `match` on it makes the record.
 #[derive(Clone, Copy)]
-enum Number {
-    Value(u32),
-    End,
+pub(crate) struct Head {
+    pub label: usize,
+    pub lent: usize,
+    pub source: usize,
+    pub body: usize,
+    pub room: usize,
+    pub source_given: usize,
+    pub body_given: usize,
+    pub kind: u32,
+    pub id: u32,
+    pub rows: u32,
+    pub version: u32,
 }
 
-// The next number. Input that is cut off is at its end.
-fn read_number(mut from: Stdin) -> Number {
-    let mut bytes = [0u8; 4];
-    if from.read_exact(&mut bytes).is_err() {
-        return Number::End;
-    }
-    let high = wide(bytes[0]) * 256 + wide(bytes[1]);
-    let low = wide(bytes[2]) * 256 + wide(bytes[3]);
-    Number::Value(high * 65536 + low)
-}
-
-// Reads `n` numbers to the start of the buffer, and answers whether they were there and the buffer
-// could hold them.
-pub(crate) fn read_numbers(from: Stdin, buf: &mut [u32], n: usize) -> bool {
-    if n > buf.len() {
-        return false;
-    }
-    let mut i = 0;
-    while i < n {
-        let next = read_number(from);
-        match next {
-            Number::End => {
-                return false;
-            }
-            Number::Value(v) => {
-                buf[i] = v;
-            }
+impl From<[u32; 11]> for Head {
+    fn from(numbers: [u32; 11]) -> Head {
+        let [
+            label,
+            lent,
+            source,
+            body,
+            room,
+            source_given,
+            body_given,
+            kind,
+            id,
+            rows,
+            version,
+        ] = numbers;
+        Head {
+            label: label as usize,
+            lent: lent as usize,
+            source: source as usize,
+            body: body as usize,
+            room: room as usize,
+            source_given: source_given as usize,
+            body_given: body_given as usize,
+            kind,
+            id,
+            rows,
+            version,
         }
-        i += 1;
     }
-    true
 }
 
-// The same of bytes.
-pub(crate) fn read_part(mut from: Stdin, buf: &mut [u8], n: usize) -> bool {
-    if n > buf.len() {
-        return false;
+// Reads numbers, as many as the buffer holds; nothing where the input ends before.
+pub(crate) fn read_numbers(from: Stdin, numbers: &mut [u32]) -> Option<()> {
+    for number in numbers {
+        let mut bytes = [0; 4];
+        read_part(from, &mut bytes, 4)?;
+        *number = u32::from_be_bytes(bytes);
     }
-    let start = 0;
-    from.read_exact(&mut buf[start..n]).is_ok()
+    Some(())
 }
 
 // Reads `period` bytes and repeats them up to `n` bytes, so that the input of long strings is short.
-pub(crate) fn read_repeated(from: Stdin, buf: &mut [u8], period: usize, n: usize) -> bool {
-    if !read_part(from, buf, period) {
-        return false;
+pub(crate) fn read_repeated(
+    from: Stdin,
+    buffer: &mut [u8],
+    period: usize,
+    n: usize,
+) -> Option<&[u8]> {
+    read_part(from, buffer, period)?;
+    let bytes = buffer.get_mut(..n)?;
+    if period > 0 {
+        // By index: a byte is copied that an earlier turn may have written.
+        for i in period..n {
+            bytes[i] = bytes[i - period];
+        }
     }
-    if n > buf.len() {
-        return false;
-    }
-    repeat(buf, period, n);
-    true
-}
-
-fn repeat(buf: &mut [u8], period: usize, n: usize)
-    requires { n ≤ length buf.old }
-{
-    if period == 0 {
-        return;
-    }
-    let mut i = period;
-    while i < n {
-        buf[i] = buf[i - period];
-        i += 1;
-    }
-}
-
-fn wide(b: u8) -> u32
-    ensures { result < 256 }
-{
-    b as u32
+    Some(bytes)
 }

@@ -1,13 +1,18 @@
 // The record that the numbers of a case name.
+use crate::input::Head;
 use records::{
     Close, Data, Feedback, Init, Record, Request, RequestMeta, Response, ResponseMeta, Span,
 };
 
 // The kinds are numbered from 0 in the order of `Record`. The fields `v` are in the order of source
 // document 000, without the map: a byte field is a start and a length, an int32 its 32 bits, and a part
-// of Init its present mark, 0 or 1, before its own fields.
-pub(crate) fn record_of(kind: u32, id: u32, header_version: u8, rows: u32, v: [u32; 16]) -> Record {
-    match kind {
+// of Init its present mark, 0 or 1, before its own fields. A version is a byte; the input has none above 255.
+// Not by `record_of` of `records`, which undoes what the writer does: a swap in both would not show.
+pub(crate) fn record_of(head: Head, v: [u32; 16]) -> Record {
+    let id = head.id;
+    let rows = head.rows;
+    let header_version = (head.version % 256) as u8;
+    match head.kind {
         0 => Record::Request(request(id, header_version, rows, v)),
         1 => Record::Response(response(id, header_version, rows, v)),
         2 => Record::Init(init(id, header_version, rows, v)),
@@ -26,17 +31,9 @@ pub(crate) fn record_of(kind: u32, id: u32, header_version: u8, rows: u32, v: [u
     }
 }
 
-// A version is a byte; the input has none above 255.
-pub(crate) fn version_of(number: u32) -> u8 {
-    (number % 256) as u8
-}
-
+// No From: of a pair of numbers nothing says which one is the start.
 fn span(start: u32, len: u32) -> Span {
     Span { start, len }
-}
-
-fn signed(bits: u32) -> i32 {
-    wire_read::low_i32(bits as u64)
 }
 
 fn request(id: u32, header_version: u8, rows: u32, v: [u32; 16]) -> Request {
@@ -65,8 +62,8 @@ fn response(id: u32, header_version: u8, rows: u32, v: [u32; 16]) -> Response {
         version: v[0],
         call_type: v[1],
         request_id: v[2],
-        ret: signed(v[3]),
-        func_ret: signed(v[4]),
+        ret: v[3].cast_signed(),
+        func_ret: v[4].cast_signed(),
         error_msg: span(v[5], v[6]),
         message_type: v[7],
         content_type: v[8],
@@ -89,7 +86,7 @@ fn init(id: u32, header_version: u8, rows: u32, v: [u32; 16]) -> Init {
         },
         response_meta: ResponseMeta {
             present: v[8] == 1,
-            ret: signed(v[9]),
+            ret: v[9].cast_signed(),
             error_msg: span(v[10], v[11]),
         },
         init_window_size: v[12],
@@ -103,11 +100,11 @@ fn close(id: u32, header_version: u8, rows: u32, v: [u32; 16]) -> Close {
     Close {
         id,
         header_version,
-        close_type: signed(v[0]),
-        ret: signed(v[1]),
+        close_type: v[0].cast_signed(),
+        ret: v[1].cast_signed(),
         msg: span(v[2], v[3]),
         message_type: v[4],
-        func_ret: signed(v[5]),
+        func_ret: v[5].cast_signed(),
         rows,
     }
 }

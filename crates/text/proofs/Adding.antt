@@ -1,12 +1,13 @@
 -- What is added to the text: a word where there is room, and one thing after another is both at once
 use Prim.Native.Nat.{ℕ, suc, ◌+◌, ◌-◌, ◌≤◌, ◌<◌}
-use mathlib.Core.Path.{◌≡◌, refl, ap, sym, subst, ◌∙◌}
-use mathlib.Core.List.{List, [], ◌∷◌, ◌++◌, append_assoc, append-nil}
+use mathlib.Core.Path.{◌≡◌, refl, ap, ap₂, sym, subst, ◌∙◌}
+use mathlib.Core.List.{List, [], ◌∷◌, ◌++◌, append_assoc}
 use native.Mathlib.Omega.{arith}
 use borrow.Author.Tests.{le-leb, lt-leb}
-use lib.ListN.{length, take, drop, length-append, length-drop}
-use lib.Seq.{sets, sets-eq, length-sets, take_all, take-length, drop-drop, drop-length}
-use borrow.Rule.Slice.PartMut.{mid_of, post_of, put_mid}
+use lib.ListN.{length, take, drop, length-append, length-take, length-drop}
+use native.Mathlib.Decide.{dec_le}
+use lib.Seq.{sets, sets-eq, length-sets, drop-drop}
+use borrow.Rule.Slice.PartMut.{put_mid}
 use Rattle.text.specs.Added.{Buffered, full, with_text, added, Adds}
 
 -- no room
@@ -21,24 +22,27 @@ adds_all : (word text : List ℕ) (at : ℕ) → at + length word ≤ length tex
 unfolding added
 adds_all word text at h = rw (le-leb (at + length word) (length text) h)
 
--- a word copied to the start of what the text has from `at` on
-copied : (text : List ℕ) (at : ℕ) (word : List ℕ) → at ≤ length text
-    → put_mid at (length text - at) text (take (length word) word ++ drop (length word) (mid_of at (length text - at) text))
-    ≡ with_text text at word
-copied text at word h =
-    let all : mid_of at (length text - at) text ≡ drop at text =
-    take_all (length text - at) (drop at text) (omega (arith, length-drop at text)) in
-    let none : post_of at (length text - at) text ≡ [] =
-    ap (λ (k : ℕ). drop k (drop at text)) (sym (length-drop at text)) ∙ drop-length (drop at text) in
-    rw (all, none, take-length word, append-nil, drop-drop) (sym (append_assoc (take at text) word _))
+-- a word copied to the place that it ends from
+pub adds_word : (text word part : List ℕ) (at end : ℕ) → (end ≡ at + length word) × (end ≤ length text) → part ≡ word
+    → record { bytes = put_mid (end - length word) (end - (end - length word)) text part; place = end } ≡ added word text at
+adds_word text word part at end h p =
+    let e = h.0 in
+    let s : end - length word ≡ at = omega arith in
+    let n : end - at ≡ length word = omega arith in
+    let bytes : put_mid (end - length word) (end - (end - length word)) text part ≡ with_text text at word =
+    rw (s, p, n, drop-drop) (sym (append_assoc (take at text) word _)) in
+    ap₂ (λ (bs : List ℕ) (k : ℕ). record { bytes = bs; place = k }) bytes e ∙ adds_all word text at (omega (arith, h.1))
 
-pub adds_word : (text : List ℕ) (at : ℕ) (word part : List ℕ) → at + length word ≤ length text
-    → part ≡ take (length word) word ++ drop (length word) (mid_of at (length text - at) text)
-    → record { bytes = put_mid at (length text - at) text part; place = at + length word } ≡ added word text at
-adds_word text at word part h e =
-    ap (λ (bs : List ℕ). record { bytes = bs; place = at + length word })
-    (ap (put_mid at (length text - at) text) e ∙ copied text at word (omega arith))
-    ∙ adds_all word text at h
+-- the buffer is as long as it was
+pub length_added : (word text : List ℕ) (at : ℕ) (after : List ℕ) (next : ℕ) → record { bytes = after; place = next } ≡ added word text at
+    → length after ≡ length text
+length_added word text at after next e = go (dec_le (at + length word) (length text))
+  where
+    go : Dec (at + length word ≤ length text) → length after ≡ length text
+    go (yes h) =
+        ap (λ (t : Buffered). length t.bytes) (e ∙ sym (adds_all word text at h))
+        ∙ omega (arith, length-append (take at text ++ word) (drop (at + length word) text), length-append (take at text) word, length-take at text, length-drop (at + length word) text)
+    go (no h) = ap (λ (t : Buffered). length t.bytes) (e ∙ sym (adds_nothing word text at (omega arith)))
 
 -- what a caller gets of an answer, where it knows that there is room
 pub adds : (word text : List ℕ) (at : ℕ) (after : List ℕ) (next : ℕ) → at + length word ≤ length text

@@ -1,5 +1,5 @@
 -- A buffer with text at its start, and the place after the text
-use Rattle.std.specs.Prelude.{ℕ, ◌+◌, ◌-◌, ◌^◌, cond, List, ◌++◌, ◌≡◌, leb, length, take, drop}
+use Rattle.std.specs.Prelude.{ℕ, Option, Some, None, ◌+◌, ◌-◌, ◌^◌, cond, List, ◌++◌, ◌≡◌, leb, length, take, drop}
 
 pub record Buffered : Type 0 where
   pub bytes : List ℕ
@@ -8,6 +8,11 @@ pub record Buffered : Type 0 where
 -- the place that says that there was no room: no buffer is as long
 abbrev pub full : ℕ
 full = 2 ^ 64 - 1
+
+-- the place after a text of this length, or of none
+abbrev pub place_of : Option ℕ → ℕ
+place_of (Some at) = at
+place_of None = full
 
 -- the buffer with a word from place `at` on, and else as it was
 abbrev pub with_text : (text : List ℕ) → (at : ℕ) → (word : List ℕ) → List ℕ

@@ -1,75 +1,140 @@
-// Text in a lent buffer. A function that adds to it puts something after the `at` bytes that are there, and returns the place
-// after it. Where there is no room, the buffer stays as it was and the place is FULL.
+// Text in a lent buffer. A method that adds to it puts something after the text that is there. Where there is no room for all of it,
+// the buffer stays as it was, and the text has no length from then on.
 #![tactic(auto)]
 
-mod number;
-
-ghost use Rattle.std.specs.Prelude.{◌≡◌, [], ◌∷◌, ◌<◌, ◌≤◌, ◌++◌, length, take, drop};
+ghost use Rattle.std.specs.Prelude.{◌≡◌, [], ◌∷◌, ◌+◌, ◌<◌, ◌≤◌, length, IfSome, IsNone};
 ghost use Rattle.text.specs.Digits.{hex_digit_ascii};
 ghost use Rattle.text.specs.Numbers.{decimal, signed, hex_byte};
-ghost use Rattle.text.specs.Added.{added, place_with_room};
+ghost use Rattle.text.specs.Added.{place_of};
+ghost use Rattle.text.specs.Text.{WithAdded, BeginsIn, BeginsAgain, MakesRoom};
 
-use std::io::Stdout;
+use itoa::Buffer;
+use std::io;
+use std::io::{Stdout, Write};
 
-// There was no room. Nothing fits after this place either.
-pub const FULL: usize = 18446744073709551615;
+// A buffer, and how many bytes at its start are text. After something had no room there is no length, and nothing has room.
+#[derive(Drop)]
+pub struct Text<'a> {
+    pub bytes: &'a mut [u8],
+    pub len: Option<usize>,
+}
 
-// Adds bytes as they are.
-pub fn add(text: &mut [u8], at: usize, word: &[u8]) -> usize
-    ensures { record { bytes = text.new; place = result } ≡ added word.now text.old at }
-{
-    if text.len() < at {
-        return FULL;
+impl Text<'_> {
+    // Adds bytes as they are.
+    pub fn add(&mut self, word: &[u8])
+        ensures { WithAdded word.now self.old self.new }
+    {
+        self.len = self.place_after(word.len());
+        if let Some(end) = self.len {
+            self.bytes[end - word.len()..end].copy_from_slice(word);
+        }
     }
-    if text.len() - at < word.len() {
-        return FULL;
+
+    // Adds one byte.
+    pub fn add_byte(&mut self, b: u8)
+        ensures { WithAdded (b ∷ []) self.old self.new }
+    {
+        self.add(&[b]);
     }
-    copy(word, &mut text[at..]);
-    at + word.len()
-}
 
-// Copies a word to the start of a buffer that has room for it.
-fn copy(word: &[u8], out: &mut [u8])
-    requires { length word.now ≤ length out.old }
-    ensures { out.new ≡ take (length word.now) word.now ++ drop (length word.now) out.old }
-{
-    out[..word.len()].copy_from_slice(word);
-}
-
-// Adds one byte.
-pub fn add_byte(text: &mut [u8], at: usize, b: u8) -> usize
-    ensures { record { bytes = text.new; place = result } ≡ added (b ∷ []) text.old at }
-{
-    add(text, at, &[b])
-}
-
-// Adds a number in decimal.
-pub fn add_decimal(text: &mut [u8], at: usize, n: u64) -> usize
-    ensures { record { bytes = text.new; place = result } ≡ added (decimal n) text.old at }
-{
-    let mut digits = [0u8; 20];
-    let k = number::decimal(n, &mut digits);
-    add(text, at, &digits[..k])
-}
-
-// Adds a signed number in decimal, given by its 64 bits.
-pub fn add_signed(text: &mut [u8], at: usize, bits: u64) -> usize
-    ensures { record { bytes = text.new; place = result } ≡ added (signed bits) text.old at }
-{
-    if bits < 9223372036854775808 {
-        return add_decimal(text, at, bits);
+    // Adds a number in decimal.
+    pub fn add_decimal(&mut self, n: u64)
+        ensures { WithAdded (decimal n) self.old self.new }
+    {
+        let mut digits = Buffer::new();
+        self.add(digits.format(n).as_bytes());
     }
-    let mut word = [b'-'; 21];
-    let k = add_decimal(&mut word, 1, 18446744073709551615 - bits + 1);
-    add(text, at, &word[..k])
+
+    // Adds a signed number in decimal, given by its 64 bits.
+    pub fn add_signed(&mut self, bits: u64)
+        ensures { WithAdded (signed bits) self.old self.new }
+    {
+        let mut digits = Buffer::new();
+        self.add(digits.format(bits.cast_signed()).as_bytes());
+    }
+
+    // Adds a byte as two hexadecimal digits.
+    pub fn add_hex(&mut self, b: u8)
+        ensures { WithAdded (hex_byte b) self.old self.new }
+    {
+        self.add(&[digit(b / 16), digit(b % 16)]);
+    }
+
+    // The text, where it has a length.
+    fn written(&self) -> Option<&[u8]> {
+        self.bytes.get(..self.len?)
+    }
+
+    // The place after so many bytes more. There is none where they have no room.
+    fn place_after(&self, n: usize) -> Option<usize>
+        ensures fits { IfSome result (λ end. (end ≡ place_of self.now.len + n) × (end ≤ length self.now.bytes.now)) }
+        ensures no_room { IsNone result → length self.now.bytes.now < place_of self.now.len + n }
+    {
+        let end = self.len?.checked_add(n)?;
+        if end <= self.bytes.len() {
+            Some(end)
+        } else {
+            None
+        }
+    }
 }
 
-// Adds a byte as two hexadecimal digits.
-pub fn add_hex(text: &mut [u8], at: usize, b: u8) -> usize
-    ensures { record { bytes = text.new; place = result } ≡ added (hex_byte b) text.old at }
-{
-    let word = [digit(b / 16), digit(b % 16)];
-    add(text, at, &word)
+// A text that is printed to standard output and begun again when it has no room for what is to be added. No contract can say what
+// reaches standard output. Whether a write failed is dropped.
+#[derive(Drop)]
+pub struct Printer<'a> {
+    pub out: Stdout,
+    pub text: Text<'a>,
+}
+
+impl<'a> Printer<'a> {
+    // Nothing is to be printed yet.
+    pub fn new(out: Stdout, bytes: &'a mut [u8]) -> Printer<'a>
+        ensures { BeginsIn bytes.entry result.text }
+    {
+        Printer {
+            out,
+            text: Text {
+                bytes,
+                len: Some(0),
+            },
+        }
+    }
+
+    // Sees that `n` bytes more can be added: prints the text where there is no room for them after it.
+    pub fn make_room(&mut self, n: usize)
+        ensures { MakesRoom n self.old.text self.new.text }
+    {
+        if self.text.place_after(n).is_none() {
+            self.print();
+        }
+    }
+
+    // Prints the text, and begins it again.
+    pub fn print(&mut self)
+        ensures { BeginsAgain self.old.text self.new.text }
+    {
+        let mut out = self.out;
+        if let Some(text) = self.text.written() {
+            let _ = out.write_all(text);
+        }
+        self.text.len = Some(0);
+    }
+}
+
+impl Write for Printer<'_> {
+    // As many of the bytes as the buffer can hold.
+    fn write(&mut self, bytes: &[u8]) -> io::Result<usize> {
+        let n = bytes.len().min(self.text.bytes.len());
+        self.make_room(n);
+        self.text.add(&bytes[..n]);
+        Ok(n)
+    }
+
+    fn flush(&mut self) -> io::Result<()> {
+        self.print();
+        Ok(())
+    }
 }
 
 fn digit(d: u8) -> u8
@@ -77,30 +142,4 @@ fn digit(d: u8) -> u8
     ensures { result ≡ hex_digit_ascii d }
 {
     if d < 10 { 48 + d } else { 87 + d }
-}
-
-// The place from which `n` bytes more can be added: `at` where there is room for them after it. Otherwise the text is printed
-// first, unless `at` is past the buffer, and the place is the buffer's start.
-pub fn with_room(out: Stdout, text: &[u8], at: usize, n: usize) -> usize
-    ensures { result ≡ place_with_room n text.now at }
-{
-    if text.len() < at {
-        return 0;
-    }
-    if n <= text.len() - at {
-        return at;
-    }
-    print(out, text, at)
-}
-
-// Prints the first `at` bytes of the buffer to standard output, and returns the place at its start. No contract can say what
-// reaches standard output. Whether the write failed is dropped.
-pub fn print(out: Stdout, text: &[u8], at: usize) -> usize
-    ensures { result ≡ 0 }
-{
-    let start = 0;
-    if at <= text.len() {
-        let _ = out.write_all(&text[start..at]);
-    }
-    start
 }

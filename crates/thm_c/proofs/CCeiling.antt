@@ -35,9 +35,9 @@ use mathlib.Core.List.{List, []}
 use native.Mathlib.Omega.{arith}
 use lib.ListN.{length, take, drop, replicate}
 use Rattle.fixed_header.specs.Header.{CeilingOk, header_error, total_of}
-use Rattle.deframer.specs.declared.Step.{Step}
-use Rattle.deframer.specs.declared.Progress.{Progress}
-use Rattle.deframer.specs.declared.Progress.TheVariants.{Frame, NeedMore, Refused}
+use Rattle.deframer.specs.Step.{Step}
+use Rattle.deframer.specs.Progress.{Progress}
+use Rattle.deframer.specs.Progress.{Frame, NeedMore, Refused}
 use Rattle.deframer.proofs.PastCeiling.{buffer_past, rest_unseen, frame_within, RefusedWith2, over_refused, code_refused}
 use Rattle.schema.specs.declared.Kind.{Kind}
 use Rattle.message.proofs.Under.{read_fits}

@@ -15,21 +15,20 @@ use mathlib.Core.List.{List}
 use native.Mathlib.Omega.{arith}
 use lib.ListN.{length}
 use Rattle.fixed_header.specs.Header.{header_error, parsed}
-use Rattle.fixed_header.specs.declared.Parsed.{Parsed}
-use Rattle.fixed_header.specs.declared.Parsed.TheVariants as headers
+use Rattle.fixed_header.specs.declared.FixedHeader.{FixedHeader}
+use Rattle.std.specs.Prelude.{Result, Ok, Err}
 use Rattle.message.specs.Frames.{read_frame}
 use Rattle.deframer.specs.Deframe.{deframed, ended}
-use Rattle.deframer.specs.declared.Progress.{Progress}
-use Rattle.deframer.specs.declared.Progress.TheVariants as progress
-use Rattle.deframer.specs.declared.End.{End}
-use Rattle.deframer.specs.declared.End.TheVariants as end
+use Rattle.deframer.specs.Progress.{Progress}
+use Rattle.deframer.specs.Progress as progress
+use Rattle.deframer.specs.End.{End}
+use Rattle.deframer.specs.End as end
 use Rattle.schema.specs.declared.Kind.{Kind}
 use Rattle.records.specs.declared.Record.{Record}
-use Rattle.message.specs.declared.Answer.{Answer}
-use Rattle.message.specs.declared.Answer.TheVariants as answers
+use Rattle.message.specs.Frames.{Answer}
+use Rattle.std.specs.Prelude.{Ok, Err}
 use Rattle.writer.specs.Writing.{error_of, written}
-use Rattle.writer.specs.declared.Encoded.{Encoded}
-use Rattle.writer.specs.declared.Encoded.TheVariants as encoded
+use Rattle.std.specs.Prelude.{Result, Ok, Err}
 use Rattle.bekurapi.specs.Answers.{parsed_error, deframer_of, progress_error, end_error, answer_error}
 use Rattle.bekurapi.specs.Numbers.{record_from}
 use Rattle.thm_c.specs.Header.{CParsed, CChecks, CParses}
@@ -70,9 +69,9 @@ parse_exactly c h =
     (unless_error (header_grounds c h) (header_error c h) (header_numbered c h)
     (outcome_of (header_check c h) (header_error c h) (header_exactly c h)) end)
 
-parsed_number : (p : Parsed) → parsed_error p ≡ number_of (parsed_says p)
-parsed_number (headers.Good h) = refl
-parsed_number (headers.Refused code) = refl
+parsed_number : (p : Result FixedHeader ℕ) → parsed_error p ≡ number_of (parsed_says p)
+parsed_number (Ok h) = refl
+parsed_number (Err code) = refl
 
 pub c_parse : (c : ℕ) (h : List ℕ) (d : CParsed) → CParses c h d → Exactly (c_parse_entry c h) d
 c_parse c h d is =
@@ -112,10 +111,10 @@ c_finish c held error buffer f finishes =
     numbers = search arith depth 30
 
 -- ---- the six writers
-encoded_number : (e : Encoded) → error_of e ≡ number_of (encoded_says e)
+encoded_number : (e : Result ℕ ℕ) → error_of e ≡ number_of (encoded_says e)
 unfolding error_of
-encoded_number (encoded.Frame size) = refl
-encoded_number (encoded.Refused code) = refl
+encoded_number (Ok size) = refl
+encoded_number (Err code) = refl
 
 module _ (c : ℕ) (kind : Kind) (numbers source rows body output : List ℕ) where
   abbrev r : Record
@@ -143,8 +142,8 @@ module _ (c : ℕ) (kind : Kind) (numbers source rows body output : List ℕ) wh
 
 -- ---- the six readers
 answer_number : (a : Answer) → answer_error a ≡ number_of (answer_says a)
-answer_number (answers.Read r) = refl
-answer_number (answers.Refused code) = refl
+answer_number (Ok r) = refl
+answer_number (Err code) = refl
 
 module _ (c : ℕ) (kind : Kind) (f lent : List ℕ) where
   pub c_read : (x : CRead) → CReads c kind f lent x → Exactly (c_read_entry c kind f lent) x

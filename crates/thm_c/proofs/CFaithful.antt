@@ -20,7 +20,7 @@ use Rattle.fixed_header.specs.Header.{CeilingOk}
 use Rattle.deframer.specs.Deframe.{Out, fresh, ended}
 use Rattle.deframer.specs.Stream.{Uncut, uncut}
 use Rattle.thm_stream.specs.Calls.{Event, taken_of, frames_of, Offered, Faithful}
-use Rattle.deframer.specs.declared.Progress.{Progress}
+use Rattle.deframer.specs.Progress.{Progress}
 use Rattle.deframer.specs.declared.Deframer.{Deframer}
 use Rattle.thm_stream.proofs.Faithful.{faithful}
 use Rattle.message.specs.Frames.{read_frame}

@@ -14,8 +14,8 @@ use lib.Dec.{eqb}
 use Rattle.fixed_header.specs.Header.{header_error, parsed}
 use Rattle.fixed_header.specs.declared.FrameType.{FrameType}
 use Rattle.fixed_header.specs.declared.FrameType.TheVariants.{Unary, Init, Data, Feedback, Close}
-use Rattle.fixed_header.specs.declared.Parsed.{Parsed}
-use Rattle.fixed_header.specs.declared.Parsed.TheVariants.{Good, Refused}
+use Rattle.fixed_header.specs.declared.FixedHeader.{FixedHeader}
+use Rattle.std.specs.Prelude.{Result, Ok, Err}
 use Rattle.bekurapi.specs.Answers.{type_number, parsed_error}
 use Rattle.thm_c.specs.Header.{CParsed, CChecks, CParses, type_from, header_from}
 use Rattle.thm_c.specs.Entries.{parsed_C}
@@ -30,20 +30,20 @@ type_back Data = refl
 type_back Feedback = refl
 type_back Close = refl
 
-abbrev Told : Parsed → Type 0
-Told (Good h) = Unit {0}
-Told (Refused code) = code ≡ 0 → ⊥
+abbrev Told : Result FixedHeader ℕ → Type 0
+Told (Ok h) = Unit {0}
+Told (Err code) = code ≡ 0 → ⊥
 
-back : (p : Parsed) → Told p → header_from (parsed_C p) ≡ p
-back (Good h) t =
-    ap (λ (y : FrameType). Good (record {
+back : (p : Result FixedHeader ℕ) → Told p → header_from (parsed_C p) ≡ p
+back (Ok h) t =
+    ap (λ (y : FrameType). Ok (record {
       frame_type = y;
       total = h.total;
       header_size = h.header_size;
       id = h.id;
       version = h.version;
     })) (type_back h.frame_type)
-back (Refused code) t = rw (ne_eqb code 0 t) refl
+back (Err code) t = rw (ne_eqb code 0 t) refl
 
 told : (c : ℕ) (bytes : List ℕ) → Told (parsed c bytes)
 unfolding parsed
@@ -56,7 +56,7 @@ header_told c bytes x e = ap header_from (all_parsed c bytes x e) ∙ back (pars
 parsed_code : (c : ℕ) (bytes : List ℕ) → parsed_error (parsed c bytes) ≡ header_error c bytes
 unfolding parsed
 parsed_code c bytes =
-    choose (λ (p : Parsed). parsed_error p ≡ header_error c bytes) (eqb (header_error c bytes) 0) _ _
+    choose (λ (p : Result FixedHeader ℕ). parsed_error p ≡ header_error c bytes) (eqb (header_error c bytes) 0) _ _
     (λ e. sym (eqb-true (header_error c bytes) 0 e)) (λ e. refl)
 
 pub same_code : (c : ℕ) (bytes : List ℕ) (code : ℕ) (x : CParsed) → CChecks c bytes code → CParses c bytes x → x.code ≡ code

@@ -23,7 +23,7 @@ use Rattle.fixed_header.specs.Header.{version_of}
 use Rattle.fixed_header.proofs.LastTwo.{last_two_ignored, byte_16_unparsed}
 use Rattle.deframer.specs.Deframe.{stream}
 use Rattle.deframer.specs.declared.Deframer.{Deframer}
-use Rattle.deframer.specs.declared.Step.{Step}
+use Rattle.deframer.specs.Step.{Step}
 use Rattle.deframer.proofs.LastTwoCut.{step_alike, end_alike}
 use Rattle.schema.specs.declared.Kind.{Kind}
 use Rattle.records.specs.Content.{record_id, row_count, slots_of}
@@ -31,8 +31,8 @@ use Rattle.records.specs.declared.Span.{Span}
 use Rattle.records.specs.declared.Record.TheVariants.{Request, Response, Init, Data, Feedback, Close}
 use Rattle.message.specs.Frames.{Reading, read_frame}
 use Rattle.message.specs.Spans.{spans_of}
-use Rattle.message.specs.declared.Answer.{Answer}
-use Rattle.message.specs.declared.Answer.TheVariants.{Read, Refused}
+use Rattle.message.specs.Frames.{Answer}
+use Rattle.std.specs.Prelude.{Ok, Err}
 use Rattle.bekurapi.specs.Answers.{answer_error, deframer_of, progress_error, progress_size}
 use Rattle.bekurapi.specs.Numbers.{numbers_of}
 use Rattle.thm_round_trip.specs.Versions.{versioned, answer_versioned, reading_versioned}
@@ -49,20 +49,20 @@ read_sized size x = record { code = answer_error x.answer; rows = x.rows; number
 
 -- ---- what the numbers of an answer do not say of its version
 code_alike : (v : ℕ) (a : Answer) → answer_error a ≡ answer_error (answer_versioned v a)
-code_alike v (Read r) = refl
-code_alike v (Refused code) = refl
+code_alike v (Ok r) = refl
+code_alike v (Err code) = refl
 
 numbers_alike : (v : ℕ) (a : Answer) (header body attachment : Span)
     → take 24 (numbers_of (record { answer = a; header = header; body = body; attachment = attachment }))
     ≡ take 24 (numbers_of (record { answer = answer_versioned v a; header = header; body = body; attachment = attachment }))
 unfolding versioned record_id row_count slots_of
-numbers_alike v (Read (Request r)) header body attachment = refl
-numbers_alike v (Read (Response r)) header body attachment = refl
-numbers_alike v (Read (Init r)) header body attachment = refl
-numbers_alike v (Read (Data r)) header body attachment = refl
-numbers_alike v (Read (Feedback r)) header body attachment = refl
-numbers_alike v (Read (Close r)) header body attachment = refl
-numbers_alike v (Refused code) header body attachment = refl
+numbers_alike v (Ok (Request r)) header body attachment = refl
+numbers_alike v (Ok (Response r)) header body attachment = refl
+numbers_alike v (Ok (Init r)) header body attachment = refl
+numbers_alike v (Ok (Data r)) header body attachment = refl
+numbers_alike v (Ok (Feedback r)) header body attachment = refl
+numbers_alike v (Ok (Close r)) header body attachment = refl
+numbers_alike v (Err code) header body attachment = refl
 
 -- ---- two calls of the reader of a kind: x is what the call on f gave, y what the call on g gave
 module _ (c : ℕ) (kind : Kind) (f g lent : List ℕ) (x y : CRead) (long : length f ≡ length g) where

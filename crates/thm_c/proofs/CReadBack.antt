@@ -26,14 +26,13 @@ use Rattle.message.specs.Frames.{read_frame, last_bytes}
 use Rattle.schema.specs.declared.Kind.{Kind}
 use Rattle.schema.specs.declared.Kind.TheVariants as kinds
 use Rattle.records.specs.declared.Record.{Record}
-use Rattle.message.specs.declared.Answer.{Answer}
-use Rattle.message.specs.declared.Answer.TheVariants as answers
+use Rattle.message.specs.Frames.{Answer}
+use Rattle.std.specs.Prelude.{Ok, Err}
 use Rattle.records.specs.Content.{kind_of, record_id, record_version, slots_of}
 use Rattle.records.proofs.Made.{kind_is, id_is, version_is}
 use Rattle.writer.specs.Writing.{Writing, refused_with, wrote, message_of, frame_of, write_error, written}
 use Rattle.writer.specs.Writing.{error_of, count_of}
-use Rattle.writer.specs.declared.Encoded.{Encoded}
-use Rattle.writer.specs.declared.Encoded.TheVariants.{Frame, Refused}
+use Rattle.std.specs.Prelude.{Result, Ok, Err}
 use Rattle.bekurapi.specs.Answers.{answer_error}
 use Rattle.bekurapi.specs.Kinds.{written_from}
 use Rattle.bekurapi.specs.Numbers.{fields_from, record_from}
@@ -93,17 +92,17 @@ slots_in_range source kinds.Close id version l rows w =
     (low_small (get_or l 0 0), (low_small (get_or l 1 0), (w 4, (low_small (get_or l 5 0), tt))))
 
 -- ---- what 0 says of a call of the writer
-abbrev Coded : Encoded → Type 0
-Coded (Frame size) = Unit {0}
-Coded (Refused code) = code ≡ 0 → ⊥
+abbrev Coded : Result ℕ ℕ → Type 0
+Coded (Ok size) = Unit {0}
+Coded (Err code) = code ≡ 0 → ⊥
 
 abbrev CodedIn : Writing → Type 0
 CodedIn w = Coded w.answer
 
-framed : (a : Encoded) → Coded a → error_of a ≡ 0 → a ≡ Frame (count_of a)
+framed : (a : Result ℕ ℕ) → Coded a → error_of a ≡ 0 → a ≡ Ok (count_of a)
 unfolding error_of count_of
-framed (Frame size) c e = refl
-framed (Refused code) c e = absurd (c e)
+framed (Ok size) c e = refl
+framed (Err code) c e = absurd (c e)
 
 coded_by : (c : ℕ) (r : Record) (source numbers body output : List ℕ) → Coded (written c r source numbers body output).answer
 coded_by c r source numbers body output =
@@ -116,12 +115,12 @@ module _ (c : ℕ) (kind : Kind) (numbers source rows body out : List ℕ) (w : 
   abbrev lent_record : Record
   lent_record = record_from kind numbers
 
-  abbrev given : Encoded
+  abbrev given : Result ℕ ℕ
   given = (written c lent_record source rows body out).answer
 
-  answer_is : given ≡ Frame w.size
+  answer_is : given ≡ Ok w.size
   answer_is =
-      framed given (coded_by c lent_record source rows body out) (sym writes.code_is ∙ done) ∙ ap Frame (sym writes.size_is)
+      framed given (coded_by c lent_record source rows body out) (sym writes.code_is ∙ done) ∙ ap (λ (n : ℕ). Ok n) (sym writes.size_is)
 
   pub c_message_fits : MessageFits c kind (message_of lent_record source rows) (take w.size w.out)
   c_message_fits =
@@ -146,12 +145,12 @@ abbrev SaysRecord : Meaning → Type 0
 SaysRecord (says k id version fields rows) = Unit {0}
 SaysRecord (refused code) = ⊥
 
-is_read : (a : Answer) (source numbers : List ℕ) → SaysRecord (answer_meaning a source numbers) → (r : Record) × (a ≡ answers.Read r)
+is_read : (a : Answer) (source numbers : List ℕ) → SaysRecord (answer_meaning a source numbers) → (r : Record) × (a ≡ Ok r)
 unfolding answer_meaning
-is_read (answers.Read r) source numbers s = (r, refl)
-is_read (answers.Refused code) source numbers s = absurd s
+is_read (Ok r) source numbers s = (r, refl)
+is_read (Err code) source numbers s = absurd s
 
-read_means : (r : Record) (source numbers : List ℕ) → meaning r source numbers ≡ answer_meaning (answers.Read r) source numbers
+read_means : (r : Record) (source numbers : List ℕ) → meaning r source numbers ≡ answer_meaning (Ok r) source numbers
 unfolding answer_meaning
 read_means r source numbers = refl
 
@@ -192,7 +191,7 @@ module _ (kind : Kind) (numbers source : List ℕ) where
     abbrev said_as : Kind → Meaning
     said_as k = answer_meaning (read_frame c k frame lent).answer frame (read_frame c k frame lent).rows
 
-    again : (z : Record) × ((read_frame c kind frame lent).answer ≡ answers.Read z)
+    again : (z : Record) × ((read_frame c kind frame lent).answer ≡ Ok z)
     again =
         is_read (read_frame c kind frame lent).answer frame (read_frame c kind frame lent).rows
         (subst SaysRecord (sym (as_kind said_as ∙ back.same_record)) tt)

@@ -26,9 +26,9 @@ use Rattle.message.specs.Spans.{span_from, bytes_at, spans_of}
 use Rattle.records.specs.declared.Span.{Span}
 use Rattle.schema.specs.declared.Kind.{Kind}
 use Rattle.records.specs.declared.Record.{Record}
-use Rattle.message.specs.declared.Answer.{Answer}
-use Rattle.message.specs.declared.Answer.TheVariants as answers
-use Rattle.message.specs.declared.Located.{Located}
+use Rattle.message.specs.Frames.{Answer}
+use Rattle.std.specs.Prelude.{Ok, Err}
+use Rattle.message.specs.Spans.{Spans}
 use Rattle.message.proofs.SpansStand.{spans_stand}
 use Rattle.bekurapi.specs.Answers.{answer_error}
 use Rattle.bekurapi.specs.Numbers.{numbers_of, record_from}
@@ -39,8 +39,8 @@ use Rattle.laws.proofs.Booleans.{choose}
 
 -- ---- a refusal has a number that is not 0, and no parts
 abbrev BareBy : Answer → Reading → Type 0
-BareBy (answers.Read r) x = Unit {0}
-BareBy (answers.Refused code) x = (code ≡ 0 → ⊥) × (x.header ≡ []) × (x.body ≡ []) × (x.attachment ≡ [])
+BareBy (Ok r) x = Unit {0}
+BareBy (Err code) x = (code ≡ 0 → ⊥) × (x.header ≡ []) × (x.body ≡ []) × (x.attachment ≡ [])
 
 abbrev Bare : Reading → Type 0
 Bare x = BareBy x.answer x
@@ -72,7 +72,7 @@ spans_all f l s size e =
     ap₂ (λ (k : ℕ) (x : List ℕ). record { size = k; content = x }) size (rw n at e)
 
 -- ---- the numbers of a refusal
-zero_numbers : (l : Located) (code : ℕ) → l.answer ≡ answers.Refused code → l.header ≡ span_from 0 0 → l.body ≡ span_from 0 0
+zero_numbers : (l : Spans) (code : ℕ) → l.answer ≡ Err code → l.header ≡ span_from 0 0 → l.body ≡ span_from 0 0
     → l.attachment ≡ span_from 0 0
     → numbers_of l ≡ replicate 25 0
 zero_numbers l code e h b a = rw (e, h, b, a) refl
@@ -81,39 +81,39 @@ module _ (c : ℕ) (kind : Kind) (frame lent : List ℕ) where
   abbrev given : Reading
   given = read_frame c kind frame lent
 
-  abbrev spans : Located
+  abbrev spans : Spans
   spans = spans_of given (length frame)
 
   module _ (x : CRead) (reads : CReads c kind frame lent x) where
     abbrev Answered : Answer → Type 0
-    Answered a = cond (eqb x.code 0) (answers.Read (record_from kind x.numbers)) (answers.Refused x.code) ≡ a
+    Answered a = cond (eqb x.code 0) (Ok (record_from kind x.numbers)) (Err x.code) ≡ a
 
     answer_is : (a : Answer) → given.answer ≡ a → BareBy a given → Answered a
-    answer_is (answers.Read r) e b =
+    answer_is (Ok r) e b =
         let done : x.code ≡ 0 = reads.code_is ∙ ap answer_error e in
         let said = ap (record_from kind) reads.numbers_are ∙ reading_back c kind frame lent (length frame) r e in
-        rw (eq-eqb x.code 0 done) (ap answers.Read said)
-    answer_is (answers.Refused code) e b =
+        rw (eq-eqb x.code 0 done) (ap Ok said)
+    answer_is (Err code) e b =
         let is : x.code ≡ code = reads.code_is ∙ ap answer_error e in
         rw (is, ne_eqb code 0 b.0) refl
 
     zeros : (a : Answer) → given.answer ≡ a → BareBy a given → (x.code ≡ 0 → ⊥) → x.numbers ≡ replicate 25 0
-    zeros (answers.Read r) e b z = absurd (z (reads.code_is ∙ ap answer_error e))
-    zeros (answers.Refused code) e b z =
+    zeros (Ok r) e b z = absurd (z (reads.code_is ∙ ap answer_error e))
+    zeros (Err code) e b z =
         reads.numbers_are
         ∙ zero_numbers spans code e (rw b.1 refl) (rw b.2 refl) (rw b.3 refl)
 
     version_in : (a : Answer) → given.answer ≡ a → BareBy a given → x.code ≡ 0 → get_or x.numbers 24 0 ≡ version_of frame
-    version_in (answers.Read r) e b z =
+    version_in (Ok r) e b z =
         ap (λ (ns : List ℕ). get_or ns 24 0) reads.numbers_are ∙ version_read c kind frame lent (length frame) r e
-    version_in (answers.Refused code) e b z = absurd (b.0 (sym (reads.code_is ∙ ap answer_error e) ∙ z))
+    version_in (Err code) e b z = absurd (b.0 (sym (reads.code_is ∙ ap answer_error e) ∙ z))
 
-    read_in : (a : Answer) → given.answer ≡ a → BareBy a given → x.code ≡ 0 → (r : Record) × (given.answer ≡ answers.Read r)
-    read_in (answers.Read r) e b z = (r, e)
-    read_in (answers.Refused code) e b z = absurd (b.0 (sym (reads.code_is ∙ ap answer_error e) ∙ z))
+    read_in : (a : Answer) → given.answer ≡ a → BareBy a given → x.code ≡ 0 → (r : Record) × (given.answer ≡ Ok r)
+    read_in (Ok r) e b z = (r, e)
+    read_in (Err code) e b z = absurd (b.0 (sym (reads.code_is ∙ ap answer_error e) ∙ z))
 
     -- where 0 is returned the frame was read
-    pub zero_read : x.code ≡ 0 → (r : Record) × (given.answer ≡ answers.Read r)
+    pub zero_read : x.code ≡ 0 → (r : Record) × (given.answer ≡ Ok r)
     zero_read = read_in given.answer refl (bare c kind frame lent)
 
     part : (place : ℕ) (l : List ℕ) (s : Span) → part_at frame (numbers_of spans) place ≡ bytes_from frame s.start s.len

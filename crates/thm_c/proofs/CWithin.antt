@@ -17,9 +17,9 @@ use Rattle.message.specs.Frames.{Reading, read_frame}
 use Rattle.message.specs.Spans.{spans_of as located}
 use Rattle.schema.specs.declared.Kind.{Kind}
 use Rattle.records.specs.declared.Record.{Record}
-use Rattle.message.specs.declared.Answer.{Answer}
-use Rattle.message.specs.declared.Answer.TheVariants as answers
-use Rattle.message.specs.declared.Located.{Located}
+use Rattle.message.specs.Frames.{Answer}
+use Rattle.std.specs.Prelude.{Ok, Err}
+use Rattle.message.specs.Spans.{Spans}
 use Rattle.records.specs.Content.{row_count}
 use Rattle.records.proofs.Made.{count_is}
 use Rattle.bekurapi.specs.Numbers.{answer_id, answer_version, answer_rows, answer_slots, numbers_of, record_from}
@@ -39,8 +39,8 @@ module _ (frame : List ℕ) (kind : Kind) where
 
   -- "A refused record .. is all zero"
   zero_handed : (code : ℕ) (rows : List ℕ)
-      → Handed rows (record_of kind (answer_id (answers.Refused code)) (answer_version (answers.Refused code))
-      (answer_slots (answers.Refused code)) (answer_rows (answers.Refused code)))
+      → Handed rows (record_of kind (answer_id (Err code)) (answer_version (Err code))
+      (answer_slots (Err code)) (answer_rows (Err code)))
   unfolding rows_in
   zero_handed code rows =
       (record_lies frame kind 0 0 blank.slots 0 (blank_lies frame kind), rw (count_is 0 0 blank.slots 0 kind) tt)
@@ -49,15 +49,15 @@ module _ (frame : List ℕ) (kind : Kind) where
     abbrev given : Reading
     given = read_frame c kind frame lent
 
-    abbrev gave : Located
+    abbrev gave : Spans
     gave = located given (length frame)
 
     handed : (a : Answer) → given.answer ≡ a → Every (SpanLies frame) (spans_in a)
         → Every (RowLies (length frame)) (rows_in (counted_in a) given.rows)
         → Handed given.rows (record_from kind (numbers_of gave))
-    handed (answers.Read r) e fields rows =
+    handed (Ok r) e fields rows =
         subst (Handed given.rows) (sym (reading_back c kind frame lent (length frame) r e)) (fields, rows)
-    handed (answers.Refused code) e fields rows =
+    handed (Err code) e fields rows =
         subst (λ (a : Answer). Handed given.rows (record_of kind (answer_id a) (get_or (answer_slots a ++ answer_version a ∷ []) 16 0 % 256)
         (take slot_count (answer_slots a ++ answer_version a ∷ [])) (answer_rows a))) (sym e)
         (zero_handed code given.rows)

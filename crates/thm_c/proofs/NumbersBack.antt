@@ -27,9 +27,9 @@ use Rattle.schema.specs.declared.Kind.{Kind}
 use Rattle.schema.specs.declared.Kind.TheVariants as kinds
 use Rattle.records.specs.declared.Record.{Record}
 use Rattle.records.specs.declared.Record.TheVariants as records
-use Rattle.message.specs.declared.Answer.{Answer}
-use Rattle.message.specs.declared.Answer.TheVariants as answers
-use Rattle.message.specs.declared.Located.{Located}
+use Rattle.message.specs.Frames.{Answer}
+use Rattle.std.specs.Prelude.{Ok, Err}
+use Rattle.message.specs.Spans.{Spans}
 use Rattle.records.specs.Content.{mark, kind_of, record_id, record_version, row_count, slots_of}
 use Rattle.bekurapi.specs.Numbers.{answer_id, answer_version, answer_rows, answer_slots, numbers_of, record_from}
 use Rattle.thm_round_trip.proofs.LastTwoWritten.{byte_is}
@@ -75,7 +75,7 @@ record_back (records.Close r) h =
       signed_bits r.func_ret h.1.2,
     ) refl
 
-pub numbers_back : (l : Located) (r : Record) → l.answer ≡ answers.Read r → Fit r → record_from (kind_of r) (numbers_of l) ≡ r
+pub numbers_back : (l : Spans) (r : Record) → l.answer ≡ Ok r → Fit r → record_from (kind_of r) (numbers_of l) ≡ r
 numbers_back l r e h =
     ap (λ (a : Answer). record_of (kind_of r) (answer_id a) (get_or (answer_slots a ++ answer_version a ∷ []) 16 0 % 256)
     (take slot_count (answer_slots a ++ answer_version a ∷ [])) (answer_rows a)) e
@@ -84,11 +84,11 @@ numbers_back l r e h =
 -- ---- the record of a frame
 -- a record that was read is sound, of its kind and of its version
 abbrev Kept : Kind → (version : ℕ) → Answer → Type 0
-Kept kind version (answers.Read r) = Fit r × (kind_of r ≡ kind) × (record_version r ≡ version)
-Kept kind version (answers.Refused code) = Unit {0}
+Kept kind version (Ok r) = Fit r × (kind_of r ≡ kind) × (record_version r ≡ version)
+Kept kind version (Err code) = Unit {0}
 
 made : (kind : Kind) (id version : ℕ) (slots : List ℕ) (rows : ℕ) → version < 2 ^ 8
-    → Kept kind version (answers.Read (record_of kind id version slots rows))
+    → Kept kind version (Ok (record_of kind id version slots rows))
 unfolding record_of record_version kind_of
 made kinds.Request id version l rows h = ((h, tt), refl, refl)
 made kinds.Response id version l rows h = ((h, (low_small (get_or l 3 0), low_small (get_or l 4 0))), refl, refl)
@@ -132,16 +132,16 @@ module _ (c : ℕ) (kind : Kind) (f lent : List ℕ) where
       (none 9 lent))
       (none (header_error c (take 16 f)) lent))))
 
-kept_read : (c : ℕ) (kind : Kind) (f lent : List ℕ) (r : Record) → (read_frame c kind f lent).answer ≡ answers.Read r
-    → Kept kind (version_of f) (answers.Read r)
+kept_read : (c : ℕ) (kind : Kind) (f lent : List ℕ) (r : Record) → (read_frame c kind f lent).answer ≡ Ok r
+    → Kept kind (version_of f) (Ok r)
 kept_read c kind f lent r e = subst (Kept kind (version_of f)) e (kept c kind f lent).is
 
-pub version_read : (c : ℕ) (kind : Kind) (f lent : List ℕ) (size : ℕ) (r : Record) → (read_frame c kind f lent).answer ≡ answers.Read r
+pub version_read : (c : ℕ) (kind : Kind) (f lent : List ℕ) (size : ℕ) (r : Record) → (read_frame c kind f lent).answer ≡ Ok r
     → get_or (numbers_of (spans_of (read_frame c kind f lent) size)) 24 0 ≡ version_of f
 version_read c kind f lent size r e =
     ap (λ (a : Answer). get_or (answer_slots a ++ answer_version a ∷ []) 16 0) e ∙ last_is r ∙ (kept_read c kind f lent r e).2
 
-pub reading_back : (c : ℕ) (kind : Kind) (f lent : List ℕ) (size : ℕ) (r : Record) → (read_frame c kind f lent).answer ≡ answers.Read r
+pub reading_back : (c : ℕ) (kind : Kind) (f lent : List ℕ) (size : ℕ) (r : Record) → (read_frame c kind f lent).answer ≡ Ok r
     → record_from kind (numbers_of (spans_of (read_frame c kind f lent) size)) ≡ r
 reading_back c kind f lent size r e =
     let is = kept_read c kind f lent r e in

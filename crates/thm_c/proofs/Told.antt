@@ -12,10 +12,10 @@ use Rattle.laws.proofs.Booleans.{choose}
 use Rattle.fixed_header.specs.Header.{ceiling_ok}
 use Rattle.deframer.specs.Deframe.{Out, known_of, stream, next_frame, deframed, ended}
 use Rattle.deframer.specs.declared.Deframer.{Deframer}
-use Rattle.deframer.specs.declared.Progress.{Progress}
-use Rattle.deframer.specs.declared.Progress.TheVariants.{Frame, NeedMore, Refused}
-use Rattle.deframer.specs.declared.End.{End}
-use Rattle.deframer.specs.declared.End.TheVariants as end
+use Rattle.deframer.specs.Progress.{Progress}
+use Rattle.deframer.specs.Progress.{Frame, NeedMore, Refused}
+use Rattle.deframer.specs.End.{End}
+use Rattle.deframer.specs.End as end
 use Rattle.fixed_header.proofs.Codes.{good_total}
 use Rattle.deframer.proofs.Advance.{next_short, next_bad, next_part, next_whole, Shape, short, bad, part, whole, shape}
 use Rattle.bekurapi.specs.Answers.{progress_error, progress_size, end_error, end_short}

@@ -5,10 +5,10 @@ use Rattle.std.specs.Prelude.{ℕ, suc, ◌≡◌, ◌⊎◌, cond, List, [], �
 use Rattle.deframer.specs.Deframe.{Out, ended}
 use Rattle.deframer.specs.Stream.{uncut}
 use Rattle.thm_stream.specs.Calls.{Event, pushed, finished, pushed_wrong, finished_wrong, taken_of, RefusedBy, Faithful}
-use Rattle.deframer.specs.declared.Progress.{Progress}
-use Rattle.deframer.specs.declared.Progress.TheVariants.{Frame, NeedMore, Refused}
-use Rattle.deframer.specs.declared.End.{End}
-use Rattle.deframer.specs.declared.End.TheVariants as end
+use Rattle.deframer.specs.Progress.{Progress}
+use Rattle.deframer.specs.Progress.{Frame, NeedMore, Refused}
+use Rattle.deframer.specs.End.{End}
+use Rattle.deframer.specs.End as end
 use Rattle.thm_stream.specs.Readings.{Naming}
 use Rattle.bekurapi.specs.Answers.{deframer_of, DeframedAs, end_error, end_short}
 use Rattle.thm_c.specs.Readings.{CRead, CReads, CReadOf}

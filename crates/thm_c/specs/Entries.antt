@@ -2,12 +2,11 @@
 -- says just that.
 -- The queue's functions for C are in `thm_queue` (proofs/Exactly).
 -- Assumes nothing.
-use Rattle.std.specs.Prelude.{ℕ, List, length, get_or}
+use Rattle.std.specs.Prelude.{ℕ, List, Result, Ok, Err, length, get_or}
 use Rattle.fixed_header.specs.Header.{total_of, header_size_of, id_of, version_of, type_of}
-use Rattle.fixed_header.specs.declared.Parsed.{Parsed}
-use Rattle.fixed_header.specs.declared.Parsed.TheVariants as headers
+use Rattle.fixed_header.specs.declared.FixedHeader.{FixedHeader}
 use Rattle.deframer.specs.Deframe.{Out}
-use Rattle.deframer.specs.declared.End.{End}
+use Rattle.deframer.specs.End.{End}
 use Rattle.message.specs.Frames.{Reading}
 use Rattle.message.specs.Spans.{spans_of}
 use Rattle.schema.specs.declared.Kind.{Kind}
@@ -28,7 +27,7 @@ use Rattle.thm_refusals.specs.Reader.{read_entry}
 -- ---- `trpc_header_check`: `header_check` of `thm_refusals`
 
 -- ---- `trpc_header_parse`: 41 "before all others"; "judge 9, then 3 to 8", without 8; all are 0 after a refusal
-abbrev pub parsed_C : Parsed → CParsed
+abbrev pub parsed_C : Result FixedHeader ℕ → CParsed
 parsed_C p =
     record {
       code = parsed_error p;
@@ -39,18 +38,18 @@ parsed_C p =
       version = (header_given p).version;
     }
 
-abbrev pub parsed_says : Parsed → Verdict
-parsed_says (headers.Good h) = works
-parsed_says (headers.Refused n) = refuses n
+abbrev pub parsed_says : Result FixedHeader ℕ → Verdict
+parsed_says (Ok h) = works
+parsed_says (Err n) = refuses n
 
 -- `parse_header`
-abbrev pub parse_entry : (c : ℕ) → List ℕ → Entry Parsed
+abbrev pub parse_entry : (c : ℕ) → List ℕ → Entry (Result FixedHeader ℕ)
 parse_entry c h =
     record {
       grounds = header_grounds c h;
       says = parsed_says;
-      refusal = headers.Refused;
-      work = headers.Good (record {
+      refusal = Err;
+      work = Ok (record {
         frame_type = type_of (get_or h 2 0) (get_or h 3 0);
         total = total_of h;
         header_size = header_size_of h;

@@ -1,11 +1,10 @@
 -- What a caller in C sees of a call of `trpc_header_check` and of `trpc_header_parse`, where each gives what its contract ensures.
 -- The numbers are read as include/bekurapi.h says.
-use Rattle.std.specs.Prelude.{ℕ, ◌≡◌, cond, List, eqb}
+use Rattle.std.specs.Prelude.{ℕ, ◌≡◌, cond, List, Result, Ok, Err, eqb}
 use Rattle.fixed_header.specs.Header.{header_error}
 use Rattle.fixed_header.specs.declared.FrameType.{FrameType}
 use Rattle.fixed_header.specs.declared.FrameType.TheVariants.{Unary, Init, Data, Feedback, Close}
-use Rattle.fixed_header.specs.declared.Parsed.{Parsed}
-use Rattle.fixed_header.specs.declared.Parsed.TheVariants.{Good, Refused}
+use Rattle.fixed_header.specs.declared.FixedHeader.{FixedHeader}
 use Rattle.bekurapi.specs.Answers.{ParsedAs}
 
 -- what C has after a call of `trpc_header_parse`: the number returned, and what is in the five that were lent
@@ -33,14 +32,14 @@ abbrev pub type_from : ℕ → FrameType
 type_from n = cond (eqb n 0) Unary (cond (eqb n 1) Init (cond (eqb n 2) Data (cond (eqb n 3) Feedback Close)))
 
 -- the error code, or what the header says
-abbrev pub header_from : CParsed → Parsed
+abbrev pub header_from : CParsed → Result FixedHeader ℕ
 header_from x =
     cond (eqb x.code 0)
-    (Good (record {
+    (Ok (record {
       frame_type = type_from x.frame_type;
       total = x.total;
       header_size = x.header_size;
       id = x.id;
       version = x.version;
     }))
-    (Refused x.code)
+    (Err x.code)

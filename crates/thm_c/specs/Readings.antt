@@ -7,8 +7,8 @@ use Rattle.schema.specs.declared.Kind.{Kind}
 use Rattle.records.specs.declared.Record.{Record}
 use Rattle.records.specs.declared.Record.TheVariants as records
 use Rattle.records.specs.Content.{record_version}
-use Rattle.message.specs.declared.Answer.{Answer}
-use Rattle.message.specs.declared.Answer.TheVariants as answers
+use Rattle.message.specs.Frames.{Answer}
+use Rattle.std.specs.Prelude.{Ok, Err}
 use Rattle.bekurapi.specs.Kinds.{ReadAs}
 use Rattle.bekurapi.specs.Numbers.{record_from}
 use Rattle.message.specs.Meaning.{Bytes, bytes_from, all_of}
@@ -41,7 +41,7 @@ pub record CReading : Type 0 where
 abbrev pub said_by : Kind → (frame : List ℕ) → CRead → CReading
 said_by kind frame x =
     record {
-      answer = cond (eqb x.code 0) (answers.Read (record_from kind x.numbers)) (answers.Refused x.code);
+      answer = cond (eqb x.code 0) (Ok (record_from kind x.numbers)) (Err x.code);
       header = part_at frame x.numbers 2;
       body = part_at frame x.numbers 4;
       attachment = part_at frame x.numbers 6;

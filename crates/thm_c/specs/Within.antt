@@ -2,15 +2,15 @@
 use Rattle.std.specs.Prelude.{ℕ, List}
 use Rattle.records.specs.Records.{span_at}
 use Rattle.schema.specs.declared.Kind.{Kind}
-use Rattle.message.specs.declared.Answer.TheVariants as answers
-use Rattle.message.specs.declared.Located.{Located}
+use Rattle.std.specs.Prelude.{Ok}
+use Rattle.message.specs.Spans.{Spans}
 use Rattle.bekurapi.specs.Numbers.{record_from}
 
 -- "id, row count, start and length of header, body and attachment", then the fields and the version
-abbrev pub located_from : Kind → (numbers : List ℕ) → Located
+abbrev pub located_from : Kind → (numbers : List ℕ) → Spans
 located_from kind numbers =
     record {
-      answer = answers.Read (record_from kind numbers);
+      answer = Ok (record_from kind numbers);
       header = span_at numbers 2;
       body = span_at numbers 4;
       attachment = span_at numbers 6;

@@ -4,7 +4,7 @@ use Rattle.message.specs.Frames.{Reading}
 use Rattle.records.specs.declared.Span.{Span}
 use Rattle.records.specs.declared.Record.{Record}
 use Rattle.records.specs.declared.Record.TheVariants.{Request, Response, Feedback}
-use Rattle.message.specs.declared.Answer.TheVariants.{Read, Refused}
+use Rattle.std.specs.Prelude.{Ok, Err}
 use Rattle.queue.specs.declared.Job.{Job}
 
 -- a fixed header: magic, data and stream type, the four bytes of the total, the second byte of the header size
@@ -80,14 +80,14 @@ feedback increment = Feedback (record { id = 7; header_version = 0; window_size_
 -- a record with its header, its body, its attachment and the row numbers up to the last that is not 0
 abbrev pub whole : Record → (header body attachment rows : List ℕ) → Reading
 whole r header body attachment rows =
-    record { answer = Read r; header = header; body = body; attachment = attachment; rows = rows ++ replicate (256 - length rows) 0 }
+    record { answer = Ok r; header = header; body = body; attachment = attachment; rows = rows ++ replicate (256 - length rows) 0 }
 
 -- with a header only
 abbrev pub plain : Record → (header : List ℕ) → Reading
 plain r header = whole r header [] [] []
 
 abbrev pub refused : ℕ → Reading
-refused number = record { answer = Refused number; header = []; body = []; attachment = []; rows = replicate 256 0 }
+refused number = record { answer = Err number; header = []; body = []; attachment = []; rows = replicate 256 0 }
 
 -- ---- a job, and one at arrival 0
 abbrev pub arriving : (arrival request timeout : ℕ) → Job

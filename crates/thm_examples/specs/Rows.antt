@@ -1,10 +1,9 @@
 -- A row of the table, and what it says of the definitions
-use Rattle.std.specs.Prelude.{ℕ, zero, suc, ◌≡◌, List, [], ◌∷◌, length, replicate}
+use Rattle.std.specs.Prelude.{ℕ, zero, suc, ◌≡◌, List, [], ◌∷◌, Ok, length, replicate}
 use Rattle.fixed_header.specs.Header.{max_frame, header_error, parsed}
 use Rattle.deframer.specs.Stream.{uncut}
 use Rattle.fixed_header.specs.declared.FixedHeader.{FixedHeader}
-use Rattle.fixed_header.specs.declared.Parsed.TheVariants.{Good}
-use Rattle.deframer.specs.declared.End.{End}
+use Rattle.deframer.specs.End.{End}
 use Rattle.message.specs.Frames.{Reading, read_frame}
 use Rattle.schema.specs.declared.Kind.{Kind}
 use Rattle.queue.specs.declared.Job.{Job}
@@ -37,7 +36,7 @@ taken_all (suc n) q = (taken q).job ∷ taken_all n (taken q).queue
 abbrev pub Holds : Row → Type 0
 Holds (stream bytes frames end) = uncut max_frame bytes ≡ record { frames = frames; end = end }
 Holds (judged header number) = header_error max_frame header ≡ number
-Holds (says header said) = parsed max_frame header ≡ Good said
+Holds (says header said) = parsed max_frame header ≡ Ok said
 Holds (reads kind frame reading) = read_frame max_frame kind frame (replicate 256 0) ≡ reading
 Holds (takes jobs order) = taken_all (length order) (added_all empty_queue jobs) ≡ order
 

@@ -2,7 +2,7 @@
 -- single statement." And three rows of document 02, P2.
 use Rattle.std.specs.Prelude.{ℕ, true, false, List, [], ◌∷◌, ◌++◌, ℤ, pos, negsuc, replicate}
 use Rattle.fixed_header.specs.declared.FrameType.TheVariants as types
-use Rattle.deframer.specs.declared.End.TheVariants as end
+use Rattle.deframer.specs.End as end
 use Rattle.schema.specs.declared.Kind.TheVariants as kinds
 use Rattle.records.specs.declared.Record.TheVariants.{Init}
 use Rattle.thm_examples.specs.Rows.{Row, stream, judged, says, reads, takes}

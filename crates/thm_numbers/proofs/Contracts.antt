@@ -16,10 +16,12 @@ use types.Logic.{Logic}
 use contract.Monad.{Fun, fact}
 use denote.Ref.{Bor, MutBor}
 use denote.Triple.Clauses.{at_exit}
+use Rattle.std.specs.Prelude.{Option, Result}
+use Rattle.refusals.specs.Refusals.{in_numbers}
+use Rattle.refusals.specs.declared.Refusal.{Refusal}
 use Rattle.wire_read.specs.declared.Varint.{Varint}
 use Rattle.wire_read.specs.declared.Tag.{Tag}
 use Rattle.wire_read.specs.declared.Length.{Length}
-use Rattle.wire_read.specs.declared.Skip.{Skip}
 use Rattle.wire_read.specs.declared.Field.{Field}
 use Rattle.wire_read.specs.contracts.read_varint as read_varint
 use Rattle.wire_read.specs.contracts.read_tag as read_tag
@@ -32,10 +34,13 @@ use Rattle.wire_walk.specs.declared.Step.{Step}
 use Rattle.wire_walk.specs.contracts.FieldReader.next as reader_next
 use Rattle.wire_walk.specs.contracts.field_at as field_at
 use Rattle.wire_walk.specs.contracts.last_field as last_field_call
-use Rattle.fixed_header.specs.declared.Parsed.{Parsed}
+use Rattle.std.specs.Prelude.{Result}
+use Rattle.refusals.specs.Refusals.{in_numbers, code_of}
+use Rattle.refusals.specs.declared.Refusal.{Refusal}
+use Rattle.fixed_header.specs.declared.FixedHeader.{FixedHeader}
 use Rattle.fixed_header.specs.contracts.parse_header as parse_header
 use Rattle.decoder.specs.Decoding.{decoded}
-use Rattle.decoder.specs.declared.Decoded.{Decoded}
+use Rattle.decoder.specs.declared.Slots.{Slots}
 use Rattle.decoder.specs.contracts.decode as decode
 use Rattle.writer_checks.specs.contracts.content_error as content_error_call
 use Rattle.queue.specs.declared.Job.{Job}
@@ -47,7 +52,9 @@ use Rattle.queue.specs.contracts.take as take
 use Rattle.queue.specs.contracts.cancel as cancel
 use Rattle.deframer.specs.Deframe.{Out}
 use Rattle.deframer.specs.declared.Deframer.{Deframer}
+use Rattle.deframer.specs.InNumbers.{step_in_numbers, end_in_numbers}
 use Rattle.deframer.specs.declared.End.{End}
+use Rattle.deframer.specs.declared.Step as deframer_step
 use Rattle.schema.specs.declared.Kind.{Kind}
 use Rattle.schema.specs.declared.Kind.TheVariants as kinds
 use Rattle.records.specs.declared.Record.{Record}
@@ -56,7 +63,7 @@ use Rattle.message.specs.Spans.{spans_of}
 use Rattle.message.specs.declared.Located.{Located}
 use Rattle.reader.specs.Places.{PartsStand}
 use Rattle.reader.specs.declared.Reading as reader
-use Rattle.writer.specs.Writing.{Writing}
+use Rattle.refusals.specs.Refusals.{in_numbers, code_of}
 use Rattle.thm_stream.specs.Trace.{Answers, Leaves}
 use Rattle.thm_stream.proofs.Contracts as stream
 use Rattle.thm_refusals.specs.FieldWriter.{FieldWriting}
@@ -76,63 +83,63 @@ use Rattle.thm_numbers.specs.AnyCall as calls
 module _ {M : Type 1} {𝓤 : Ura M} (𝓛 : Logic 𝓤) (mem : Memory → SProp 𝓤) (run : Routine → Fun 𝓤) (κ ι : Lft)
     (s : Bor (List ℕ)) where
   -- ---- `fixed_header`
-  pub parse_header_ensures : (ceiling : ℕ) (p : Parsed)
+  pub parse_header_ensures : (ceiling : ℕ) (p : Result FixedHeader Refusal)
       → (parse_header.clauses 𝓛 mem run (κ, tt) (s, (ceiling, tt))).ensures tt p
       (at_exit parse_header.ended (κ, tt) (s, (ceiling, tt)) (tt, (tt, tt)))
-      ≡ fact 𝓤 (AsEnsured (calls.parse_header ceiling s.now p))
+      ≡ fact 𝓤 (AsEnsured (calls.parse_header ceiling s.now (in_numbers p)))
   parse_header_ensures ceiling p = refl
 
   -- ---- `wire_read`
   module _ (at end : ℕ) where
-    pub read_varint_ensures : (v : Varint)
+    pub read_varint_ensures : (v : Result Varint Refusal)
         → (read_varint.clauses 𝓛 mem run (κ, tt) (s, (at, (end, tt)))).ensures tt v
         (at_exit read_varint.ended (κ, tt) (s, (at, (end, tt))) (tt, (tt, (tt, tt))))
         ≡ fact 𝓤 (AsEnsured (calls.read_varint s.now at end v))
     read_varint_ensures v = refl
 
-    pub read_tag_ensures : (t : Tag)
+    pub read_tag_ensures : (t : Result (Option Tag) Refusal)
         → (read_tag.clauses 𝓛 mem run (κ, tt) (s, (at, (end, tt)))).ensures tt t
         (at_exit read_tag.ended (κ, tt) (s, (at, (end, tt))) (tt, (tt, (tt, tt))))
         ≡ fact 𝓤 (AsEnsured (calls.read_tag s.now at end t))
     read_tag_ensures t = refl
 
-    pub read_length_ensures : (l : Length)
+    pub read_length_ensures : (l : Result Length Refusal)
         → (read_length.clauses 𝓛 mem run (κ, tt) (s, (at, (end, tt)))).ensures tt l
         (at_exit read_length.ended (κ, tt) (s, (at, (end, tt))) (tt, (tt, (tt, tt))))
         ≡ fact 𝓤 (AsEnsured (calls.read_length s.now at end l))
     read_length_ensures l = refl
 
-    pub skip_field_ensures : (n w depth : ℕ) (k : Skip)
+    pub skip_field_ensures : (n w depth : ℕ) (k : Result ℕ Refusal)
         → (skip_field_call.clauses 𝓛 mem run (κ, tt) (s, (at, (end, (n, (w, (depth, tt))))))).ensures tt k
         (at_exit skip_field_call.ended (κ, tt) (s, (at, (end, (n, (w, (depth, tt)))))) (tt, (tt, (tt, (tt, (tt, (tt, tt)))))))
         ≡ fact 𝓤 (AsEnsured (calls.skip_field_call s.now at end n w depth k))
     skip_field_ensures n w depth k = refl
 
-    pub next_field_ensures : (f : Field)
+    pub next_field_ensures : (f : Result (Option Field) Refusal)
         → (next_field.clauses 𝓛 mem run (κ, tt) (s, (at, (end, tt)))).ensures tt f
         (at_exit next_field.ended (κ, tt) (s, (at, (end, tt))) (tt, (tt, (tt, tt))))
         ≡ fact 𝓤 (AsEnsured (calls.next_field_call s.now at end f))
     next_field_ensures f = refl
 
   -- ---- `wire_walk`
-  pub reader_next_ensures : (r : FieldReader) (m : Moved)
+  pub reader_next_ensures : (r : FieldReader) (m : Result (Option Moved) Refusal)
       → (reader_next.clauses 𝓛 mem run (κ, tt) (r, tt)).ensures tt m (at_exit reader_next.ended (κ, tt) (r, tt) (tt, tt))
       ≡ fact 𝓤 (AsEnsured (calls.reader_next r m))
   reader_next_ensures r m = refl
 
-  pub field_at_ensures : (at : ℕ) (x : Step)
+  pub field_at_ensures : (at : ℕ) (x : Result (Option Step) Refusal)
       → (field_at.clauses 𝓛 mem run (κ, tt) (s, (at, tt))).ensures tt x (at_exit field_at.ended (κ, tt) (s, (at, tt)) (tt, (tt, tt)))
       ≡ fact 𝓤 (AsEnsured (calls.field_at_call s.now at x))
   field_at_ensures at x = refl
 
-  pub last_field_ensures : (t : ℕ) (f : Field)
+  pub last_field_ensures : (t : ℕ) (f : Result (Option Field) Refusal)
       → (last_field_call.clauses 𝓛 mem run (κ, tt) (s, (t, tt))).ensures tt f
       (at_exit last_field_call.ended (κ, tt) (s, (t, tt)) (tt, (tt, tt)))
       ≡ fact 𝓤 (AsEnsured (calls.last_field_call s.now t f))
   last_field_ensures t f = refl
 
   -- ---- `decoder`, with the row numbers afterwards
-  pub decode_ensures : (at end schema : ℕ) (lent : MutBor (List ℕ)) (d : Decoded) (after : List ℕ)
+  pub decode_ensures : (at end schema : ℕ) (lent : MutBor (List ℕ)) (d : Result Slots Refusal) (after : List ℕ)
       → (decode.clauses 𝓛 mem run (κ, (ι, tt)) (s, (at, (end, (schema, (lent, tt)))))).ensures tt d
       (at_exit decode.ended (κ, (ι, tt)) (s, (at, (end, (schema, (lent, tt))))) (tt, (tt, (tt, (tt, (after, tt))))))
       ≡ sep 𝓤 (fact 𝓤 (AsEnsured (calls.decode s.now at end schema lent.now d)))
@@ -140,12 +147,12 @@ module _ {M : Type 1} {𝓤 : Ura M} (𝓛 : Logic 𝓤) (mem : Memory → SProp
   decode_ensures at end schema lent d after = refl
 
   -- ---- `writer_checks`
-  pub content_error_ensures : (θ : Lft) (kind : Kind) (slots : Bor (List ℕ)) (count : ℕ) (lent : Bor (List ℕ)) (body_size code : ℕ)
-      → (content_error_call.clauses 𝓛 mem run (θ, (κ, (ι, tt))) (kind, (slots, (count, (s, (lent, (body_size, tt))))))).ensures tt code
+  pub content_error_ensures : (θ : Lft) (kind : Kind) (slots : Bor (List ℕ)) (count : ℕ) (lent : Bor (List ℕ)) (body_size : ℕ) (r : Result (Unit {0}) Refusal)
+      → (content_error_call.clauses 𝓛 mem run (θ, (κ, (ι, tt))) (kind, (slots, (count, (s, (lent, (body_size, tt))))))).ensures tt r
       (at_exit content_error_call.ended (θ, (κ, (ι, tt))) (kind, (slots, (count, (s, (lent, (body_size, tt))))))
       (tt, (tt, (tt, (tt, (tt, (tt, tt)))))))
-      ≡ fact 𝓤 (AsEnsured (calls.content_error_call kind slots.now count s.now lent.now body_size code))
-  content_error_ensures θ kind slots count lent body_size code = refl
+      ≡ fact 𝓤 (AsEnsured (calls.content_error_call kind slots.now count s.now lent.now body_size (code_of r)))
+  content_error_ensures θ kind slots count lent body_size r = refl
 
   -- ---- `queue`
   pub queue_add_ensures : (q : Queue) (j : Job) (a : Added)
@@ -168,45 +175,52 @@ module _ {M : Type 1} {𝓤 : Ura M} (𝓛 : Logic 𝓤) (mem : Memory → SProp
 abbrev left_of : {A : Type 2} {x y : A} → x ≡ y → A
 left_of {A} {x} {y} law = x
 
+-- an answer of `deframe` and the buffer afterwards, as a call of `AnyCall` has them
+abbrev left : deframer_step.Step → (buffer : List ℕ) → Out
+left step after = record { step = step_in_numbers step; buffer = after }
+
 module _ {M : Type 1} {𝓤 : Ura M} (𝓛 : Logic 𝓤) (mem : Memory → SProp 𝓤) (run : Routine → Fun 𝓤) (κ ι : Lft) where
   -- `fixed_header`
-  pub check_header_is : (bytes : Bor (List ℕ)) (ceiling code : ℕ)
-      → left_of (header.header_ensures 𝓛 mem run κ bytes ceiling code)
-      ≡ fact 𝓤 (AsEnsured (calls.check_header ceiling bytes.now code))
-  check_header_is bytes ceiling code = refl
+  pub check_header_is : (bytes : Bor (List ℕ)) (ceiling : ℕ) (r : Result (Unit {0}) Refusal)
+      → left_of (header.header_ensures 𝓛 mem run κ bytes ceiling r)
+      ≡ fact 𝓤 (AsEnsured (calls.check_header ceiling bytes.now (code_of r)))
+  check_header_is bytes ceiling r = refl
 
   -- `deframer`: two facts, of the answer and of the buffer
-  pub deframe_is : (state : Deframer) (buffer : MutBor (List ℕ)) (ceiling : ℕ) (piece : Bor (List ℕ)) (o : Out)
-      → (P : Type 0) × ((Q : Type 0) × ((AsEnsured (calls.deframe ceiling state buffer.now piece.now o) ≡ (P × Q))
-      × (left_of (stream.deframe_ensures 𝓛 mem run κ ι state buffer ceiling piece o.step o.buffer)
+  pub deframe_is : (state : Deframer) (buffer : MutBor (List ℕ)) (ceiling : ℕ) (piece : Bor (List ℕ)) (step : deframer_step.Step) (after : List ℕ)
+      → (P : Type 0) × ((Q : Type 0) × ((AsEnsured (calls.deframe ceiling state buffer.now piece.now (left step after)) ≡ (P × Q))
+      × (left_of (stream.deframe_ensures 𝓛 mem run κ ι state buffer ceiling piece step after)
       ≡ sep 𝓤 (fact 𝓤 P) (fact 𝓤 Q))))
-  deframe_is state buffer ceiling piece o =
-      (Answers ceiling state buffer.now piece.now o, (Leaves ceiling state buffer.now piece.now o, (refl, refl)))
+  deframe_is state buffer ceiling piece step after =
+      (Answers ceiling state buffer.now piece.now (left step after), (Leaves ceiling state buffer.now piece.now (left step after), (refl, refl)))
 
   pub finish_is : (state : Deframer) (buffer : Bor (List ℕ)) (ceiling : ℕ) (e : End)
       → left_of (stream.finish_ensures 𝓛 mem run κ ι state buffer ceiling e)
-      ≡ fact 𝓤 (AsEnsured (calls.finish ceiling state buffer.now e))
+      ≡ fact 𝓤 (AsEnsured (calls.finish ceiling state buffer.now (end_in_numbers e)))
   finish_is state buffer ceiling e = refl
 
   -- `wire_write`
-  module _ (at : ℕ) (out : MutBor (List ℕ)) (x : FieldWriting) where
+  module _ (at : ℕ) (out : MutBor (List ℕ)) (r : Result ℕ Refusal) (after : List ℕ) where
+    abbrev x : FieldWriting
+    x = record { answer = in_numbers r; output = after }
+
     pub write_varint_is : (v : ℕ)
-        → left_of (field_writer.write_varint_ensures 𝓛 mem run κ ι at out x.answer x.output v)
+        → left_of (field_writer.write_varint_ensures 𝓛 mem run κ ι at out r after v)
         ≡ fact 𝓤 (AsEnsured (calls.write_varint v out.now at x))
     write_varint_is v = refl
 
     pub write_tag_is : (n w : ℕ)
-        → left_of (field_writer.write_tag_ensures 𝓛 mem run κ ι at out x.answer x.output n w)
+        → left_of (field_writer.write_tag_ensures 𝓛 mem run κ ι at out r after n w)
         ≡ fact 𝓤 (AsEnsured (calls.write_tag n w out.now at x))
     write_tag_is n w = refl
 
     pub write_raw_is : (content : Bor (List ℕ))
-        → left_of (field_writer.write_raw_ensures 𝓛 mem run κ ι at out x.answer x.output content)
+        → left_of (field_writer.write_raw_ensures 𝓛 mem run κ ι at out r after content)
         ≡ fact 𝓤 (AsEnsured (calls.write_raw content.now out.now at x))
     write_raw_is content = refl
 
     pub write_bytes_is : (n : ℕ) (content : Bor (List ℕ))
-        → left_of (field_writer.write_bytes_ensures 𝓛 mem run κ ι at out x.answer x.output n content)
+        → left_of (field_writer.write_bytes_ensures 𝓛 mem run κ ι at out r after n content)
         ≡ fact 𝓤 (AsEnsured (calls.write_bytes n content.now out.now at x))
     write_bytes_is n content = refl
 
@@ -220,7 +234,7 @@ module _ {M : Type 1} {𝓤 : Ura M} (𝓛 : Logic 𝓤) (mem : Memory → SProp
     pub read_is : (r : reader.Reading)
         → left_of (stream.read_ensures 𝓛 mem run κ ι kind frame ceiling rows r after)
         ≡ fact 𝓤 (AsEnsured (calls.read ceiling kind frame.now rows.now
-        (record { answer = r.answer; header = r.header.now; body = r.body.now; attachment = r.attachment.now; rows = after }))
+        (record { answer = in_numbers r.answer; header = r.header.now; body = r.body.now; attachment = r.attachment.now; rows = after }))
         × PartsStand frame.ref_ptr (spans_of (read_frame ceiling kind frame.now rows.now) (length frame.now))
         r.header.ref_ptr r.body.ref_ptr r.attachment.ref_ptr)
     read_is r = refl
@@ -244,17 +258,19 @@ module _ {M : Type 1} {𝓤 : Ura M} (𝓛 : Logic 𝓤) (mem : Memory → SProp
 
 -- `writer` and `bekurapi`
 module _ {M : Type 1} {𝓤 : Ura M} (𝓛 : Logic 𝓤) (mem : Memory → SProp 𝓤) (run : Routine → Fun 𝓤) (a b c d e f : Lft) where
-  pub write_is : (r : Record) (source rows body : Bor (List ℕ)) (out : MutBor (List ℕ)) (ceiling : ℕ) (w : Writing)
-      → left_of (round_trip.write_ensures 𝓛 mem run a b c d r source rows body out ceiling w.answer w.output)
-      ≡ fact 𝓤 (AsEnsured (calls.write ceiling r source.now rows.now body.now out.now w))
-  write_is r source rows body out ceiling w = refl
+  pub write_is : (r : Record) (source rows body : Bor (List ℕ)) (out : MutBor (List ℕ)) (ceiling : ℕ)
+      (answer : Result ℕ Refusal) (output : List ℕ)
+      → left_of (round_trip.write_ensures 𝓛 mem run a b c d r source rows body out ceiling answer output)
+      ≡ fact 𝓤 (AsEnsured (calls.write ceiling r source.now rows.now body.now out.now (record { answer = in_numbers answer; output = output })))
+  write_is r source rows body out ceiling answer output = refl
 
   pub write_slots_is : (kind : Kind) (id version : ℕ) (slots : List ℕ) (count : ℕ) (source rows body : Bor (List ℕ)) (out : MutBor (List ℕ)) (ceiling : ℕ)
-      (w : Writing)
+      (answer : Result ℕ Refusal) (output : List ℕ)
       → left_of (round_trip.write_slots_ensures 𝓛 mem run a b c d kind id version slots count source rows body out ceiling
-      w.answer w.output)
-      ≡ fact 𝓤 (AsEnsured (calls.write_slots ceiling kind id version slots count source.now rows.now body.now out.now w))
-  write_slots_is kind id version slots count source rows body out ceiling w = refl
+      answer output)
+      ≡ fact 𝓤 (AsEnsured (calls.write_slots ceiling kind id version slots count source.now rows.now body.now out.now
+      (record { answer = in_numbers answer; output = output })))
+  write_slots_is kind id version slots count source rows body out ceiling answer output = refl
 
   pub trpc_header_check_is : (bytes : Bor (List ℕ)) (ceiling code : ℕ)
       → left_of (c_calls.trpc_header_check_ensures 𝓛 mem run a b c d e f bytes ceiling code)

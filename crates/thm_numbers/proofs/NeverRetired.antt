@@ -17,39 +17,34 @@ use mathlib.Core.Logic.{◌⊎◌, inl, inr}
 use mathlib.Core.Bool.{true, not}
 use mathlib.Core.List.{List}
 use lib.Dec.{eqb, ltb}
-use lib.ListN.{length, drop}
+use lib.ListN.{length}
 use Rattle.wire_read.specs.Part.{part}
 use Rattle.wire_read.specs.Varint.{varint}
 use Rattle.wire_read.specs.Tags.{wire_type, tag, length_prefix}
 use Rattle.wire_read.specs.Skipping.{group_in, skip_field}
 use Rattle.wire_read.specs.Fields.{next_field}
-use Rattle.wire_read.specs.declared.Varint.{Varint}
-use Rattle.wire_read.specs.declared.Tag.{Tag}
-use Rattle.wire_read.specs.declared.Length.{Length}
-use Rattle.wire_read.specs.declared.Skip.{Skip}
-use Rattle.wire_read.specs.declared.Field.{Field}
 use Rattle.wire_write.specs.Writing.{put_varint, put_tag, put_bytes}
 use Rattle.wire_walk.specs.Reader.{step_at}
-use Rattle.wire_walk.specs.declared.Moved.{Moved}
-use Rattle.wire_walk.specs.declared.Step.{Step}
 use Rattle.wire_read.proofs.Codes.{tag_code, length_code, value_code, group_in_code, next_field_code}
-use Rattle.decoder.specs.declared.Decoded.{Decoded}
 use Rattle.message.specs.Frames.{read_frame}
+use Rattle.refusals.specs.declared.Refusal.{Refusal}
+use Rattle.refusals.specs.Refusals.{in_numbers, code_of}
+use Rattle.message.specs.Spans.{Spans, spans_given}
 use Rattle.message.specs.declared.Located.{Located}
 use Rattle.records.specs.Records.{record_of}
 use Rattle.records.specs.declared.Record.{Record}
 use Rattle.writer.specs.Writing.{Writing, written}
 use Rattle.thm_round_trip.specs.Calls.{Writes}
-use Rattle.writer.specs.declared.Encoded.{Encoded}
 use Rattle.laws.proofs.Booleans.{either}
 use Rattle.fixed_header.specs.Header.{ceiling_ok}
 use Rattle.deframer.specs.Deframe.{known_of, stream, next_frame, next_state, Out, deframed}
 use Rattle.deframer.specs.declared.Deframer.{Deframer}
-use Rattle.deframer.specs.declared.Step as deframer_step
-use Rattle.deframer.specs.declared.Progress.{Progress}
-use Rattle.deframer.specs.declared.Progress.TheVariants as progress
+use Rattle.deframer.specs.Step as deframer_step
+use Rattle.deframer.specs.Progress.{Progress}
+use Rattle.deframer.specs.Progress as progress
 use Rattle.bekurapi.specs.Answers.{deframer_of, deframed_from}
-use Rattle.queue.specs.Calls.{new_job}
+use Rattle.queue.specs.Calls.{new_job, after_add, after_removal}
+use Rattle.std.specs.Prelude.{Result, Ok, Err}
 use Rattle.refusals.specs.Grounds.{by_number, number_of, Entry, Exactly}
 use Rattle.refusals.specs.Numbers.{retired, Among, Usable}
 use Rattle.refusals.proofs.Numbers.{not_retired, is_in_lem, grounds_in_use, first_in_use, number_back, answer_usable}
@@ -70,14 +65,14 @@ use Rattle.thm_queue.proofs.Exactly.{add_gave, removal_gave, c_add, c_take, c_ca
 use Rattle.thm_c.specs.Entries.{parse_entry, c_parse_entry, c_deframe_entry, c_finish_entry, c_read_entry, c_write_entry}
 use Rattle.thm_c.specs.Calls.{CDeframed, CDeframes}
 use Rattle.thm_c.proofs.CExactly.{parse_exactly, progress_number, c_check, c_parse, c_deframe, c_finish, c_read, c_write}
-use Rattle.thm_numbers.specs.AnyCall.{AnyCall, AsEnsured, number_in, varint_number, tag_number, length_number, skip_number, field_number}
+use Rattle.thm_numbers.specs.AnyCall.{AnyCall, AsEnsured, number_in}
 use Rattle.thm_numbers.specs.AnyCall.{check_header, parse_header, deframe, finish, read_varint, read_tag, read_length, skip_field_call}
 use Rattle.thm_numbers.specs.AnyCall.{next_field_call, reader_next, field_at_call, last_field_call, write_varint, write_tag, write_raw, write_bytes}
 use Rattle.thm_numbers.specs.AnyCall.{decode, read_spans, read, content_error_call, write, write_slots}
 use Rattle.thm_numbers.specs.AnyCall.{queue_add, queue_take, queue_cancel}
 use Rattle.thm_numbers.specs.AnyCall.{trpc_header_check, trpc_header_parse, trpc_deframe, trpc_finish, trpc_read, trpc_write}
 use Rattle.thm_numbers.specs.AnyCall.{trpc_queue_add, trpc_queue_take, trpc_queue_cancel}
-use Rattle.thm_numbers.proofs.FieldNumbers.{varint_usable, tag_usable, length_usable, skip_usable, field_usable, last_usable}
+use Rattle.thm_numbers.proofs.FieldNumbers.{code_usable, step_usable, next_usable, varint_usable, tag_usable, length_usable, skip_usable, field_usable, last_usable}
 use Rattle.thm_numbers.proofs.FieldNumbers.{decode_usable, content_usable}
 
 -- an entry whose grounds all have numbers in use, and its answer
@@ -91,9 +86,16 @@ as_number n = subst Usable (number_back n)
 write_usable : (c : ℕ) (r : Record) (source numbers body output : List ℕ) (w : Writing) → Writes c r source numbers body output w
     → Usable (number_of (encoded_says w.answer))
 write_usable c r source numbers body output w is =
-    subst (λ (a : Encoded). Usable (number_of (encoded_says a))) (sym is.0)
+    subst (λ (a : Result ℕ ℕ). Usable (number_of (encoded_says a))) (sym is.0)
     (by_grounds (write_entry c r source numbers body output) refl (written c r source numbers body output)
     (written_exactly c r source numbers body output))
+
+spans_usable : {y : Spans} (x : Located) → spans_given x ≡ y → Usable (number_of (answer_says y.answer)) → Usable (code_of x.answer)
+spans_usable x is u = by x.answer (subst (λ (z : Spans). Usable (number_of (answer_says z.answer))) (sym is) u)
+  where
+    by : (a : Result Record Refusal) → Usable (number_of (answer_says (in_numbers a))) → Usable (code_of a)
+    by (Ok r) u = u
+    by (Err refusal) u = u
 
 pub given_in_use : (call : AnyCall) → AsEnsured call → Usable (number_in call)
 unfolding step_at
@@ -106,26 +108,22 @@ given_in_use (deframe c state buffer piece o) is =
 given_in_use (finish c state buffer e) is =
     answer_usable (finish_entry c state buffer) e (finish_gives c state buffer e is) (finish_in_use c state buffer)
 given_in_use (read_varint s at end v) is =
-    subst (λ (x : Varint). Usable (varint_number x)) (sym is) (varint_usable at (varint (part s at end)))
+    code_usable v is (varint_usable at (varint (part s at end)))
 given_in_use (read_tag s at end t) is =
-    subst (λ (x : Tag). Usable (tag_number x)) (sym is) (tag_usable at (tag (part s at end)) (tag_code (part s at end)))
+    code_usable t is (tag_usable at (tag (part s at end)) (tag_code (part s at end)))
 given_in_use (read_length s at end l) is =
-    subst (λ (x : Length). Usable (length_number x)) (sym is)
+    code_usable l is
     (length_usable at (length_prefix (part s at end)) (length_code (part s at end)))
 given_in_use (skip_field_call s at end n w depth k) is =
     let rest = part s at end in
-    subst (λ (x : Skip). Usable (skip_number x)) (sym is)
+    code_usable k is
     (skip_usable at (skip_field n w depth rest)
     (value_code (group_in (length rest)) (group_in_code (length rest)) n (wire_type w) _ rest))
 given_in_use (next_field_call s at end f) is =
-    subst (λ (x : Field). Usable (field_number x)) (sym is) (field_usable at (next_field (part s at end)) (next_field_code (part s at end)))
-given_in_use (reader_next r m) is =
-    subst (λ (x : Moved). Usable (field_number x.field)) (sym is)
-    (field_usable r.at (next_field (drop r.at r.bytes.now)) (next_field_code (drop r.at r.bytes.now)))
-given_in_use (field_at_call s at x) is =
-    subst (λ (x : Step). Usable (field_number x.field)) (sym is)
-    (field_usable at (next_field (drop at s)) (next_field_code (drop at s)))
-given_in_use (last_field_call s t f) is = subst (λ (x : Field). Usable (field_number x)) (sym is) (last_usable t s)
+    code_usable f is (field_usable at (next_field (part s at end)) (next_field_code (part s at end)))
+given_in_use (reader_next r m) is = code_usable m is (next_usable r)
+given_in_use (field_at_call s at x) is = code_usable x is (step_usable s at)
+given_in_use (last_field_call s t f) is = code_usable f is (last_usable t s)
 given_in_use (write_varint v out at x) is =
     by_grounds (raw_entry out at (put_varint v)) refl x (raw_exactly out at (put_varint v) x is)
 given_in_use (write_tag n w out at x) is =
@@ -134,9 +132,9 @@ given_in_use (write_raw content out at x) is = by_grounds (raw_entry out at cont
 given_in_use (write_bytes n content out at x) is =
     by_grounds (tag_entry n 2 out at (put_bytes n content)) refl x (tagged_exactly out at (put_bytes n content) n 2 x is)
 given_in_use (decode frame at end schema lent d) is =
-    subst (λ (x : Decoded). Usable x.error) (sym is) (decode_usable frame at end schema lent)
+    code_usable d is (decode_usable frame at end schema lent)
 given_in_use (read_spans c kind frame lent x rows) is =
-    subst (λ (x : Located). Usable (number_of (answer_says x.answer))) (sym is.0)
+    spans_usable x is.0
     (answer_usable (read_entry c kind frame lent) (read_frame c kind frame lent) (read_exactly c kind frame lent)
     (read_in_use c kind frame lent))
 given_in_use (read c kind frame lent x) is =
@@ -146,9 +144,11 @@ given_in_use (content_error_call kind slots count source numbers body_size code)
 given_in_use (write c r source numbers body output w) is = write_usable c r source numbers body output w is
 given_in_use (write_slots c kind id version slots count source numbers body output w) is =
     write_usable c (record_of kind id version slots count) source numbers body output w is
-given_in_use (queue_add q j a) is = as_number a.error (by_grounds (add_entry q j) refl a (add_gives q j a is))
-given_in_use (queue_take q a) is = as_number a.error (by_grounds (take_entry q) refl a (take_gives q a is))
-given_in_use (queue_cancel q c r a) is = as_number a.error (by_grounds (cancel_entry q c r) refl a (cancel_gives q c r a is))
+given_in_use (queue_add q j a) is =
+    as_number (code_of a.answer) (by_grounds (add_entry q j) refl (after_add a) (add_gives q j _ is))
+given_in_use (queue_take q a) is = as_number (code_of a.job) (by_grounds (take_entry q) refl (after_removal a) (take_gives q _ is))
+given_in_use (queue_cancel q c r a) is =
+    as_number (code_of a.job) (by_grounds (cancel_entry q c r) refl (after_removal a) (cancel_gives q c r _ is))
 given_in_use (trpc_header_check c bytes code) is =
     as_number code (by_grounds (header_check c bytes) refl code (c_check c bytes code is))
 given_in_use (trpc_header_parse c bytes d) is = as_number d.code (by_grounds (c_parse_entry c bytes) refl d (c_parse c bytes d is))

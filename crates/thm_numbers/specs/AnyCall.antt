@@ -2,7 +2,7 @@
 -- that this is what the entry's contract ensures (`AsEnsured`); and the number in the answer, "0 or the refusal" (`number_in`). Where an
 -- entry is given a ceiling, it is the first argument, c.
 -- Assumes nothing.
-use Rattle.std.specs.Prelude.{ℕ, ◌≡◌, List}
+use Rattle.std.specs.Prelude.{ℕ, ◌≡◌, List, Option, Result}
 use Rattle.wire_read.specs.Part.{part}
 use Rattle.wire_read.specs.Varint.{varint}
 use Rattle.wire_read.specs.Tags.{tag, length_prefix}
@@ -10,15 +10,9 @@ use Rattle.wire_read.specs.Skipping.{skip_field}
 use Rattle.wire_read.specs.Fields.{next_field}
 use Rattle.wire_read.specs.Placed.{varint_at, tag_at, length_at, skip_at, field_at}
 use Rattle.wire_read.specs.declared.Varint.{Varint}
-use Rattle.wire_read.specs.declared.Varint.TheVariants as varints
 use Rattle.wire_read.specs.declared.Tag.{Tag}
-use Rattle.wire_read.specs.declared.Tag.TheVariants as tags
 use Rattle.wire_read.specs.declared.Length.{Length}
-use Rattle.wire_read.specs.declared.Length.TheVariants as lengths
-use Rattle.wire_read.specs.declared.Skip.{Skip}
-use Rattle.wire_read.specs.declared.Skip.TheVariants as skips
 use Rattle.wire_read.specs.declared.Field.{Field}
-use Rattle.wire_read.specs.declared.Field.TheVariants as fields
 use Rattle.wire_write.specs.Writing.{put_varint, put_tag, put_bytes}
 use Rattle.wire_walk.specs.Reader.{next_of, step_at}
 use Rattle.wire_walk.specs.Last.{last_field}
@@ -26,12 +20,12 @@ use Rattle.wire_walk.specs.declared.FieldReader.{FieldReader}
 use Rattle.wire_walk.specs.declared.Moved.{Moved}
 use Rattle.wire_walk.specs.declared.Step.{Step}
 use Rattle.fixed_header.specs.Header.{header_error, parsed}
-use Rattle.fixed_header.specs.declared.Parsed.{Parsed}
+use Rattle.fixed_header.specs.declared.FixedHeader.{FixedHeader}
 use Rattle.deframer.specs.Deframe.{Out}
 use Rattle.deframer.specs.declared.Deframer.{Deframer}
-use Rattle.deframer.specs.declared.End.{End}
+use Rattle.deframer.specs.End.{End}
 use Rattle.decoder.specs.Decoding.{decoded}
-use Rattle.decoder.specs.declared.Decoded.{Decoded}
+use Rattle.decoder.specs.declared.Slots.{Slots}
 use Rattle.schema.specs.declared.Kind.{Kind}
 use Rattle.records.specs.Records.{record_of}
 use Rattle.records.specs.declared.Record.{Record}
@@ -39,12 +33,14 @@ use Rattle.message.specs.Frames.{Reading}
 use Rattle.message.specs.declared.Located.{Located}
 use Rattle.writer_checks.specs.Grounds.{content_error}
 use Rattle.writer.specs.Writing.{Writing}
-use Rattle.queue.specs.Calls.{added, taken, cancelled}
+use Rattle.queue.specs.Calls.{added, after_add, taken, cancelled, after_removal}
 use Rattle.queue.specs.declared.Job.{Job}
 use Rattle.queue.specs.declared.Queue.{Queue}
 use Rattle.queue.specs.declared.Added.{Added}
 use Rattle.queue.specs.declared.Removed.{Removed}
 use Rattle.refusals.specs.Grounds.{number_of}
+use Rattle.refusals.specs.Refusals.{in_numbers, code_of}
+use Rattle.refusals.specs.declared.Refusal.{Refusal}
 use Rattle.thm_stream.specs.Trace.{Deframes, Finishes, Reads}
 use Rattle.thm_refusals.specs.Deframer.{progress_says, end_says}
 use Rattle.thm_refusals.specs.Reader.{answer_says}
@@ -59,58 +55,31 @@ use Rattle.thm_c.specs.Calls.{CDeframed, CFinished, CDeframes, CFinishes}
 use Rattle.thm_c.specs.Readings.{CRead, CReads}
 use Rattle.thm_c.specs.RoundTrip.{CWritten, CWrites}
 
--- ---- the number in an answer of `wire_read`
-abbrev pub varint_number : Varint → ℕ
-varint_number (varints.Value v next) = 0
-varint_number (varints.Refused code) = code
-
-abbrev pub tag_number : Tag → ℕ
-tag_number (tags.Field n w next) = 0
-tag_number tags.End = 0
-tag_number (tags.Refused code) = code
-
-abbrev pub length_number : Length → ℕ
-length_number (lengths.Bytes start size) = 0
-length_number (lengths.Refused code) = code
-
-abbrev pub skip_number : Skip → ℕ
-skip_number (skips.Next next) = 0
-skip_number (skips.Refused code) = code
-
-abbrev pub field_number : Field → ℕ
-field_number fields.End = 0
-field_number (fields.Varint n v next) = 0
-field_number (fields.Fixed64 n v next) = 0
-field_number (fields.Bytes n start size) = 0
-field_number (fields.Group n next) = 0
-field_number (fields.Fixed32 n v next) = 0
-field_number (fields.Refused code) = code
-
 -- ---- a call: its arguments, and what the caller has afterwards
 pub data AnyCall : Type 0 where
   -- `fixed_header`
   check_header : (c : ℕ) (bytes : List ℕ) (code : ℕ) → AnyCall
-  parse_header : (c : ℕ) (bytes : List ℕ) (p : Parsed) → AnyCall
+  parse_header : (c : ℕ) (bytes : List ℕ) (p : Result FixedHeader ℕ) → AnyCall
   -- `deframer`
   deframe : (c : ℕ) (state : Deframer) (buffer piece : List ℕ) (o : Out) → AnyCall
   finish : (c : ℕ) (state : Deframer) (buffer : List ℕ) (e : End) → AnyCall
   -- `wire_read`
-  read_varint : (s : List ℕ) (at end : ℕ) (v : Varint) → AnyCall
-  read_tag : (s : List ℕ) (at end : ℕ) (t : Tag) → AnyCall
-  read_length : (s : List ℕ) (at end : ℕ) (l : Length) → AnyCall
-  skip_field_call : (s : List ℕ) (at end n w depth : ℕ) (k : Skip) → AnyCall
-  next_field_call : (s : List ℕ) (at end : ℕ) (f : Field) → AnyCall
+  read_varint : (s : List ℕ) (at end : ℕ) (v : Result Varint Refusal) → AnyCall
+  read_tag : (s : List ℕ) (at end : ℕ) (t : Result (Option Tag) Refusal) → AnyCall
+  read_length : (s : List ℕ) (at end : ℕ) (l : Result Length Refusal) → AnyCall
+  skip_field_call : (s : List ℕ) (at end n w depth : ℕ) (k : Result ℕ Refusal) → AnyCall
+  next_field_call : (s : List ℕ) (at end : ℕ) (f : Result (Option Field) Refusal) → AnyCall
   -- `wire_walk`
-  reader_next : (r : FieldReader) (m : Moved) → AnyCall
-  field_at_call : (s : List ℕ) (at : ℕ) (x : Step) → AnyCall
-  last_field_call : (s : List ℕ) (t : ℕ) (f : Field) → AnyCall
+  reader_next : (r : FieldReader) (m : Result (Option Moved) Refusal) → AnyCall
+  field_at_call : (s : List ℕ) (at : ℕ) (x : Result (Option Step) Refusal) → AnyCall
+  last_field_call : (s : List ℕ) (t : ℕ) (f : Result (Option Field) Refusal) → AnyCall
   -- `wire_write`
   write_varint : (v : ℕ) (out : List ℕ) (at : ℕ) (x : FieldWriting) → AnyCall
   write_tag : (n w : ℕ) (out : List ℕ) (at : ℕ) (x : FieldWriting) → AnyCall
   write_raw : (content out : List ℕ) (at : ℕ) (x : FieldWriting) → AnyCall
   write_bytes : (n : ℕ) (content out : List ℕ) (at : ℕ) (x : FieldWriting) → AnyCall
   -- `decoder`
-  decode : (frame : List ℕ) (at end schema : ℕ) (lent : List ℕ) (d : Decoded) → AnyCall
+  decode : (frame : List ℕ) (at end schema : ℕ) (lent : List ℕ) (d : Result Slots Refusal) → AnyCall
   -- `message`
   read_spans : (c : ℕ) (kind : Kind) (frame lent : List ℕ) (x : Located) (rows : List ℕ) → AnyCall
   -- `reader`
@@ -143,19 +112,19 @@ AsEnsured (check_header c bytes code) = code ≡ header_error c bytes
 AsEnsured (parse_header c bytes p) = p ≡ parsed c bytes
 AsEnsured (deframe c state buffer piece o) = Deframes c state buffer piece o
 AsEnsured (finish c state buffer e) = Finishes c state buffer e
-AsEnsured (read_varint s at end v) = v ≡ varint_at at (varint (part s at end))
-AsEnsured (read_tag s at end t) = t ≡ tag_at at (tag (part s at end))
-AsEnsured (read_length s at end l) = l ≡ length_at at (length_prefix (part s at end))
-AsEnsured (skip_field_call s at end n w depth k) = k ≡ skip_at at (skip_field n w depth (part s at end))
-AsEnsured (next_field_call s at end f) = f ≡ field_at at (next_field (part s at end))
-AsEnsured (reader_next r m) = m ≡ next_of r
-AsEnsured (field_at_call s at x) = x ≡ step_at s at
-AsEnsured (last_field_call s t f) = f ≡ last_field t s
+AsEnsured (read_varint s at end v) = in_numbers v ≡ varint_at at (varint (part s at end))
+AsEnsured (read_tag s at end t) = in_numbers t ≡ tag_at at (tag (part s at end))
+AsEnsured (read_length s at end l) = in_numbers l ≡ length_at at (length_prefix (part s at end))
+AsEnsured (skip_field_call s at end n w depth k) = in_numbers k ≡ skip_at at (skip_field n w depth (part s at end))
+AsEnsured (next_field_call s at end f) = in_numbers f ≡ field_at at (next_field (part s at end))
+AsEnsured (reader_next r m) = in_numbers m ≡ next_of r
+AsEnsured (field_at_call s at x) = in_numbers x ≡ step_at s at
+AsEnsured (last_field_call s t f) = in_numbers f ≡ last_field t s
 AsEnsured (write_varint v out at x) = Raw out at (put_varint v) x
 AsEnsured (write_tag n w out at x) = Tagged n w out at (put_tag n w) x
 AsEnsured (write_raw content out at x) = Raw out at content x
 AsEnsured (write_bytes n content out at x) = Tagged n 2 out at (put_bytes n content) x
-AsEnsured (decode frame at end schema lent d) = d ≡ (decoded frame at end schema lent).answer
+AsEnsured (decode frame at end schema lent d) = in_numbers d ≡ (decoded frame at end schema lent).answer
 AsEnsured (read_spans c kind frame lent x rows) = Locates c kind frame lent x rows
 AsEnsured (read c kind frame lent x) = Reads c kind frame lent x
 AsEnsured (content_error_call kind slots count source numbers body_size code) =
@@ -163,9 +132,9 @@ AsEnsured (content_error_call kind slots count source numbers body_size code) =
 AsEnsured (write c r source numbers body output w) = Writes c r source numbers body output w
 AsEnsured (write_slots c kind id version slots count source numbers body output w) =
     Writes c (record_of kind id version slots count) source numbers body output w
-AsEnsured (queue_add q j a) = a ≡ added q j
-AsEnsured (queue_take q a) = a ≡ taken q
-AsEnsured (queue_cancel q connection request a) = a ≡ cancelled q connection request
+AsEnsured (queue_add q j a) = after_add a ≡ added q j
+AsEnsured (queue_take q a) = after_removal a ≡ taken q
+AsEnsured (queue_cancel q connection request a) = after_removal a ≡ cancelled q connection request
 AsEnsured (trpc_header_check c bytes code) = CChecks c bytes code
 AsEnsured (trpc_header_parse c bytes d) = CParses c bytes d
 AsEnsured (trpc_deframe c held error buffer piece d) = CDeframes c held error buffer piece d
@@ -182,27 +151,27 @@ number_in (check_header c bytes code) = code
 number_in (parse_header c bytes p) = number_of (parsed_says p)
 number_in (deframe c state buffer piece o) = number_of (progress_says o.step.progress)
 number_in (finish c state buffer e) = number_of (end_says e)
-number_in (read_varint s at end v) = varint_number v
-number_in (read_tag s at end t) = tag_number t
-number_in (read_length s at end l) = length_number l
-number_in (skip_field_call s at end n w depth k) = skip_number k
-number_in (next_field_call s at end f) = field_number f
-number_in (reader_next r m) = field_number m.field
-number_in (field_at_call s at x) = field_number x.field
-number_in (last_field_call s t f) = field_number f
+number_in (read_varint s at end v) = code_of v
+number_in (read_tag s at end t) = code_of t
+number_in (read_length s at end l) = code_of l
+number_in (skip_field_call s at end n w depth k) = code_of k
+number_in (next_field_call s at end f) = code_of f
+number_in (reader_next r m) = code_of m
+number_in (field_at_call s at x) = code_of x
+number_in (last_field_call s t f) = code_of f
 number_in (write_varint v out at x) = number_of (verdict_of x.answer)
 number_in (write_tag n w out at x) = number_of (verdict_of x.answer)
 number_in (write_raw content out at x) = number_of (verdict_of x.answer)
 number_in (write_bytes n content out at x) = number_of (verdict_of x.answer)
-number_in (decode frame at end schema lent d) = d.error
-number_in (read_spans c kind frame lent x rows) = number_of (answer_says x.answer)
+number_in (decode frame at end schema lent d) = code_of d
+number_in (read_spans c kind frame lent x rows) = code_of x.answer
 number_in (read c kind frame lent x) = number_of (answer_says x.answer)
 number_in (content_error_call kind slots count source numbers body_size code) = code
 number_in (write c r source numbers body output w) = number_of (encoded_says w.answer)
 number_in (write_slots c kind id version slots count source numbers body output w) = number_of (encoded_says w.answer)
-number_in (queue_add q j a) = a.error
-number_in (queue_take q a) = a.error
-number_in (queue_cancel q connection request a) = a.error
+number_in (queue_add q j a) = code_of a.answer
+number_in (queue_take q a) = code_of a.job
+number_in (queue_cancel q connection request a) = code_of a.job
 number_in (trpc_header_check c bytes code) = code
 number_in (trpc_header_parse c bytes d) = d.code
 number_in (trpc_deframe c held error buffer piece d) = d.code

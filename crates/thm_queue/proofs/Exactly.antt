@@ -9,10 +9,8 @@
 -- Not promised: what the calls come to one after another, which `queue_promise` says.
 -- Ruled out: a call that returns 0 for a queue that is not valid, and one that changes the queue and returns a number.
 use Prim.Native.Nat.{ℕ}
-use Rattle.queue.specs.declared.Added.{Added}
 use Rattle.queue.specs.declared.Queue.{Queue}
-use Rattle.queue.specs.declared.Removed.{Removed}
-use Rattle.queue.specs.Calls.{new_job}
+use Rattle.queue.specs.Calls.{Added, Removed, new_job}
 use Rattle.refusals.specs.Grounds.{Exactly}
 use Rattle.thm_refusals.specs.Queue.{add_entry, take_entry, cancel_entry}
 use Rattle.thm_refusals.proofs.Queue.{add_gives, take_gives, cancel_gives}

@@ -6,10 +6,8 @@ use mathlib.Core.Bool.{Bool, true, false, true≢false}
 use mathlib.Core.List.{List, [], ◌∷◌, ◌++◌}
 use Rattle.queue.specs.declared.Job.{Job}
 use Rattle.queue.specs.declared.Queue.{Queue}
-use Rattle.queue.specs.declared.Added.{Added}
-use Rattle.queue.specs.declared.Removed.{Removed}
 use Rattle.queue.specs.Waiting.{waiting, invalid}
-use Rattle.queue.specs.Calls.{new_job, empty_queue, added, taken, cancelled}
+use Rattle.queue.specs.Calls.{Added, Removed, new_job, empty_queue, added, taken, cancelled}
 use Rattle.queue.proofs.Valid.{not_invalid}
 use Rattle.queue.proofs.Changes.{Sound, sound}
 use Rattle.refusals.specs.Grounds.{numbered, Exactly}

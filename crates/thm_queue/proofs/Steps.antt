@@ -13,12 +13,10 @@ use Rattle.laws.proofs.Booleans.{neither}
 use Rattle.laws.proofs.Lists.{empty}
 use Rattle.queue.specs.declared.Job.{Job}
 use Rattle.queue.specs.declared.Queue.{Queue}
-use Rattle.queue.specs.declared.Added.{Added}
-use Rattle.queue.specs.declared.Removed.{Removed}
 use Rattle.queue.specs.Due.{due, earlier}
 use Rattle.queue.specs.Waiting.{capacity, latest_arrival, zero_job, waiting, job_at, any, place, has_pair, same_pair, pair_twice}
 use Rattle.queue.specs.Waiting.{invalid, earliest, with, without, filled, closed_up}
-use Rattle.queue.specs.Calls.{empty_queue, add_error, remove_error, removed_at, added, taken, cancelled}
+use Rattle.queue.specs.Calls.{Added, Removed, empty_queue, add_error, remove_error, removed_at, added, taken, cancelled}
 use Rattle.queue.proofs.Search.{any_place, any_none, none_at, place_holds}
 use Rattle.queue.proofs.Deadlines.{earlier_self}
 use Rattle.queue.proofs.Leader.{Leads, earliest_leads}

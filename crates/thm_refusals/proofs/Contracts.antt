@@ -15,11 +15,14 @@ use types.Logic.{Logic}
 use contract.Monad.{Fun, fact}
 use denote.Ref.{Bor}
 use denote.Triple.Clauses.{at_exit}
+use Rattle.std.specs.Prelude.{Result}
+use Rattle.refusals.specs.Refusals.{code_of}
+use Rattle.refusals.specs.declared.Refusal.{Refusal}
 use Rattle.fixed_header.specs.Header.{header_error}
 use Rattle.fixed_header.specs.contracts.check_header as check
 
 pub header_ensures : {M : Type 1} {𝓤 : Ura M} (𝓛 : Logic 𝓤) (mem : Memory → SProp 𝓤) (run : Routine → Fun 𝓤) (κ : Lft)
-    (bytes : Bor (List ℕ)) (c r : ℕ)
+    (bytes : Bor (List ℕ)) (c : ℕ) (r : Result (Unit {0}) Refusal)
     → (check.clauses 𝓛 mem run (κ, tt) (bytes, (c, tt))).ensures tt r (at_exit check.ended (κ, tt) (bytes, (c, tt)) (tt, (tt, tt)))
-    ≡ fact 𝓤 (r ≡ header_error c bytes.now)
+    ≡ fact 𝓤 (code_of r ≡ header_error c bytes.now)
 header_ensures 𝓛 mem run κ bytes c r = refl

@@ -19,11 +19,11 @@ use lib.ListN.{length, take}
 use Rattle.fixed_header.specs.Header.{CeilingOk, header_error, fault_of, total_of}
 use Rattle.deframer.specs.Deframe.{known_of, stream, next_frame, Out, moved, advance, unmoved, deframed, ended}
 use Rattle.deframer.specs.declared.Deframer.{Deframer}
-use Rattle.deframer.specs.declared.Step.{Step}
-use Rattle.deframer.specs.declared.Progress.{Progress}
-use Rattle.deframer.specs.declared.Progress.TheVariants.{Frame, NeedMore, Refused}
-use Rattle.deframer.specs.declared.End.{End}
-use Rattle.deframer.specs.declared.End.TheVariants as end
+use Rattle.deframer.specs.Step.{Step}
+use Rattle.deframer.specs.Progress.{Progress}
+use Rattle.deframer.specs.Progress.{Frame, NeedMore, Refused}
+use Rattle.deframer.specs.End.{End}
+use Rattle.deframer.specs.End as end
 use Rattle.fixed_header.proofs.Codes.{first_sixteen, Code, fault_code}
 use Rattle.thm_stream.specs.Trace.{Deframes, Finishes}
 use Rattle.fixed_header.proofs.Ceilings.{ceiling_found, right_ceiling}

@@ -21,10 +21,12 @@ use types.Logic.{Logic}
 use contract.Monad.{Fun, fact}
 use denote.Ref.{Bor, MutBor}
 use denote.Triple.Clauses.{at_exit}
+use Rattle.std.specs.Prelude.{Result}
+use Rattle.refusals.specs.Refusals.{in_numbers}
+use Rattle.refusals.specs.declared.Refusal.{Refusal}
 use Rattle.copying.specs.Stored.{fits, stored}
 use Rattle.wire_write.specs.Writing.{put_varint, put_tag, put_bytes, good_tag, first_ground, answer}
 use Rattle.wire_write.specs.Writing.{written_at, tag_stored, tag_written}
-use Rattle.wire_write.specs.declared.Written.{Written}
 use Rattle.wire_write.specs.contracts.write_varint as write_varint
 use Rattle.wire_write.specs.contracts.write_tag as write_tag
 use Rattle.wire_write.specs.contracts.write_raw as write_raw
@@ -34,9 +36,9 @@ use Rattle.refusals.proofs.Tests.{Finds, each, unlike, below, at_most}
 use Rattle.refusals.proofs.Order.{Outcome, end, unless, exactly}
 use Rattle.thm_refusals.specs.FieldWriter.{FieldWriting, untouched_output, whole_written, raw_entry, tag_entry, Raw, Tagged}
 
-both_are : (r : FieldWriting) {a : Written} {o : List ℕ} → r.answer ≡ a → r.output ≡ o
+both_are : (r : FieldWriting) {a : Result ℕ ℕ} {o : List ℕ} → r.answer ≡ a → r.output ≡ o
     → r ≡ record { answer = a; output = o }
-both_are r e f = ap₂ (λ (a : Written) (o : List ℕ). record { answer = a; output = o }) e f
+both_are r e f = ap₂ (λ (a : Result ℕ ℕ) (o : List ℕ). record { answer = a; output = o }) e f
 
 good_tag_lem : (n w : ℕ) → Finds (good_tag n w) ((n * 8 + w < 2 ^ 32) × ((0 < n) × (w < 6)))
 unfolding good_tag
@@ -72,27 +74,27 @@ module _ (out : List ℕ) (at : ℕ) (x : List ℕ) where
 
 -- ---- and that this is what the contracts say, by computation
 module _ {M : Type 1} {𝓤 : Ura M} (𝓛 : Logic 𝓤) (mem : Memory → SProp 𝓤)
-    (run : Routine → Fun 𝓤) (κ ι : Lft) (at : ℕ) (out : MutBor (List ℕ)) (r : Written) (after : List ℕ) where
+    (run : Routine → Fun 𝓤) (κ ι : Lft) (at : ℕ) (out : MutBor (List ℕ)) (r : Result ℕ Refusal) (after : List ℕ) where
   pub write_varint_ensures : (v : ℕ)
       → (write_varint.clauses 𝓛 mem run (κ, tt) (v, (out, (at, tt)))).ensures tt r
       (at_exit write_varint.ended (κ, tt) (v, (out, (at, tt))) (tt, (after, (tt, tt))))
-      ≡ fact 𝓤 (Raw out.now at (put_varint v) (record { answer = r; output = after }))
+      ≡ fact 𝓤 (Raw out.now at (put_varint v) (record { answer = in_numbers r; output = after }))
   write_varint_ensures v = refl
 
   pub write_tag_ensures : (n w : ℕ)
       → (write_tag.clauses 𝓛 mem run (κ, tt) (n, (w, (out, (at, tt))))).ensures tt r
       (at_exit write_tag.ended (κ, tt) (n, (w, (out, (at, tt)))) (tt, (tt, (after, (tt, tt)))))
-      ≡ fact 𝓤 (Tagged n w out.now at (put_tag n w) (record { answer = r; output = after }))
+      ≡ fact 𝓤 (Tagged n w out.now at (put_tag n w) (record { answer = in_numbers r; output = after }))
   write_tag_ensures n w = refl
 
   pub write_raw_ensures : (content : Bor (List ℕ))
       → (write_raw.clauses 𝓛 mem run (κ, (ι, tt)) (content, (out, (at, tt)))).ensures tt r
       (at_exit write_raw.ended (κ, (ι, tt)) (content, (out, (at, tt))) (tt, (after, (tt, tt))))
-      ≡ fact 𝓤 (Raw out.now at content.now (record { answer = r; output = after }))
+      ≡ fact 𝓤 (Raw out.now at content.now (record { answer = in_numbers r; output = after }))
   write_raw_ensures content = refl
 
   pub write_bytes_ensures : (n : ℕ) (content : Bor (List ℕ))
       → (write_bytes.clauses 𝓛 mem run (κ, (ι, tt)) (n, (content, (out, (at, tt))))).ensures tt r
       (at_exit write_bytes.ended (κ, (ι, tt)) (n, (content, (out, (at, tt)))) (tt, (tt, (after, (tt, tt)))))
-      ≡ fact 𝓤 (Tagged n 2 out.now at (put_bytes n content.now) (record { answer = r; output = after }))
+      ≡ fact 𝓤 (Tagged n 2 out.now at (put_bytes n content.now) (record { answer = in_numbers r; output = after }))
   write_bytes_ensures n content = refl

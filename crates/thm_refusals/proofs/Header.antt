@@ -67,6 +67,6 @@ module _ (c : ℕ) (h : List ℕ) where
       exactly (header_check c h) (header_error c h) (λ none. refl) (first_says (header_grounds c h) header_numbered)
       (unless (ceiling_tested c) (unless (unlike (equal (length h) 16)) faults_outcome))
 
-  -- of the function itself: its contract ensures r ≡ header_error c h
+  -- of the function itself: its contract ensures r ≡ header_error c h of the number r in its answer
   pub header_check_exactly : (r : ℕ) → r ≡ header_error c h → Exactly (header_check c h) r
   header_check_exactly r e = subst (Exactly (header_check c h)) (sym e) header_exactly

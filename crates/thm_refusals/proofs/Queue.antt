@@ -15,10 +15,8 @@ use mathlib.Core.List.{List, [], ◌∷◌}
 use native.Mathlib.Omega.{arith}
 use Rattle.queue.specs.declared.Job.{Job}
 use Rattle.queue.specs.declared.Queue.{Queue}
-use Rattle.queue.specs.declared.Added.{Added}
-use Rattle.queue.specs.declared.Removed.{Removed}
 use Rattle.queue.specs.Waiting.{capacity, latest_arrival, waiting, any, has_pair, pair_twice, late, invalid}
-use Rattle.queue.specs.Calls.{added, taken, cancelled}
+use Rattle.queue.specs.Calls.{Added, Removed, added, taken, cancelled}
 use Rattle.refusals.specs.Grounds.{Some, Exactly}
 use Rattle.refusals.proofs.Tests.{Finds, each, either_found, unlike, equal, below, some}
 use Rattle.refusals.proofs.Order.{end, when, unless, exactly, first_says, Numbered}

@@ -1,21 +1,19 @@
 -- Fields that are written. "11 | reader | tag bad": of a tag that the reader would refuse. "27 | writer | output shorter than the frame":
 -- here, than what is to be written. The order is the one in which a tag and its room come: 11, then 27.
 -- Assumes nothing.
-use Rattle.std.specs.Prelude.{ℕ, ◌+◌, ◌*◌, ◌^◌, ◌<◌, ◌≡◌, List, [], ◌∷◌, ◌++◌, length, take, drop}
+use Rattle.std.specs.Prelude.{ℕ, ◌+◌, ◌*◌, ◌^◌, ◌<◌, ◌≡◌, List, [], ◌∷◌, ◌++◌, length, take, drop, Result, Ok, Err}
 use Rattle.copying.specs.Stored.{stored}
 use Rattle.wire_write.specs.Writing.{written_at, tag_stored, tag_written}
-use Rattle.wire_write.specs.declared.Written.{Written}
-use Rattle.wire_write.specs.declared.Written.TheVariants as writes
 use Rattle.refusals.specs.Grounds.{ground_of, Verdict, refuses, works, Entry}
 
--- what a call leaves: its answer, and the output
+-- what a call leaves: its answer in the papers' numbers, and the output
 pub record FieldWriting : Type 0 where
-  pub answer : Written
+  pub answer : Result ℕ ℕ
   pub output : List ℕ
 
-abbrev pub verdict_of : Written → Verdict
-verdict_of (writes.Next next) = works
-verdict_of (writes.Refused number) = refuses number
+abbrev pub verdict_of : Result ℕ ℕ → Verdict
+verdict_of (Ok next) = works
+verdict_of (Err number) = refuses number
 
 -- "A tag is a varint up to 4,294,967,295: field number times 8 plus wire type. Field 0 and wire types 6, 7 are bad."
 abbrev pub BadTag : (n w : ℕ) → Type 0
@@ -26,11 +24,11 @@ OutputShort out at x = length out < at + length x
 
 -- "all others leave rows, output and list untouched"
 abbrev pub untouched_output : (out : List ℕ) → (number : ℕ) → FieldWriting
-untouched_output out number = record { answer = writes.Refused number; output = out }
+untouched_output out number = record { answer = Err number; output = out }
 
 -- `x` is in the output from place `at`, all else is as it was, and the next place is after `x`
 abbrev pub whole_written : (out : List ℕ) → (at : ℕ) → (x : List ℕ) → FieldWriting
-whole_written out at x = record { answer = writes.Next (at + length x); output = take at out ++ x ++ drop (at + length x) out }
+whole_written out at x = record { answer = Ok (at + length x); output = take at out ++ x ++ drop (at + length x) out }
 
 -- ---- `write_varint`, `write_raw`: the bytes `x`
 abbrev pub raw_entry : (out : List ℕ) → (at : ℕ) → (x : List ℕ) → Entry FieldWriting

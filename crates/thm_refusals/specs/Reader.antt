@@ -10,8 +10,8 @@ use Rattle.records.specs.Records.{record_of, attachment_size_of}
 use Rattle.message.specs.Frames.{Reading, header_of, body_of, last_bytes, refused_untouched, refused_cleared}
 use Rattle.schema.specs.declared.Kind.{Kind}
 use Rattle.schema.specs.declared.Kind.TheVariants as kinds
-use Rattle.message.specs.declared.Answer.{Answer}
-use Rattle.message.specs.declared.Answer.TheVariants as answers
+use Rattle.message.specs.Frames.{Answer}
+use Rattle.std.specs.Prelude.{Ok, Err}
 use Rattle.refusals.specs.Grounds.{Ground, ground_of, Verdict, refuses, works, Entry}
 use Rattle.thm_refusals.specs.Header.{byte, Unary, faults}
 use Rattle.thm_refusals.specs.Fields.{message_grounds}
@@ -60,8 +60,8 @@ read_grounds c kind f lent =
 -- ---- `read`
 
 abbrev pub answer_says : Answer → Verdict
-answer_says (answers.Read r) = works
-answer_says (answers.Refused code) = refuses code
+answer_says (Ok r) = works
+answer_says (Err code) = refuses code
 
 -- "A reader's refusals 10 to 15 leave the first 256 row numbers 0; all others leave rows .. untouched."
 abbrev pub read_refusal : (lent : List ℕ) → (n : ℕ) → Reading
@@ -71,7 +71,7 @@ read_refusal lent n = cond (leb 10 n && leb n 15) (refused_cleared n lent) (refu
 abbrev pub read_work : Kind → (frame lent : List ℕ) → State → Reading
 read_work kind f lent st =
     record {
-      answer = answers.Read (record_of kind (id_of f) (version_of f) st.slots (length st.rows));
+      answer = Ok (record_of kind (id_of f) (version_of f) st.slots (length st.rows));
       header = header_of kind f;
       body = body_of kind f;
       attachment = last_bytes (attachment_size_of kind st.slots) (body_of kind f);

@@ -20,7 +20,7 @@ use Rattle.records.specs.Content.{kind_of, row_count, slots_of}
 use Rattle.writer_checks.specs.Grounds.{has_map, body_ok}
 use Rattle.writer_checks.proofs.Accepted as content
 use Rattle.writer.specs.Writing.{frame_of, write_error, wrote, refused_with, written}
-use Rattle.writer.specs.declared.Encoded.TheVariants.{Frame}
+use Rattle.std.specs.Prelude.{Ok}
 use Rattle.writer.proofs.Under.{no_content_error, accepted_within}
 use Rattle.thm_round_trip.proofs.Said.{has_rows, kept_rows}
 
@@ -54,11 +54,11 @@ record Done (frame : List ℕ) (error size : ℕ) (output : List ℕ) : Type 0 w
   is_frame : take size output ≡ frame
 
 done : (frame output : List ℕ) (error size : ℕ)
-    → (cond (eqb error 0) (wrote frame output) (refused_with error output)).answer ≡ Frame size
+    → (cond (eqb error 0) (wrote frame output) (refused_with error output)).answer ≡ Ok size
     → Done frame error size (cond (eqb error 0) (wrote frame output) (refused_with error output)).output
 done frame output error size = by (eqb error 0) refl
   where
-    by : (b : Bool) → eqb error 0 ≡ b → (cond b (wrote frame output) (refused_with error output)).answer ≡ Frame size
+    by : (b : Bool) → eqb error 0 ≡ b → (cond b (wrote frame output) (refused_with error output)).answer ≡ Ok size
         → Done frame error size (cond b (wrote frame output) (refused_with error output)).output
     by true e a =
         let is : length frame ≡ size = cc in
@@ -71,7 +71,7 @@ pub record Framed (c : ℕ) (r : Record) (source numbers body output : List ℕ)
   pub accepted : WriteAccepted c r source numbers body
 
 pub framed : (c : ℕ) (r : Record) (source numbers body output : List ℕ) (size : ℕ)
-    → (written c r source numbers body output).answer ≡ Frame size → Framed c r source numbers body output size
+    → (written c r source numbers body output).answer ≡ Ok size → Framed c r source numbers body output size
 framed c r source numbers body output size e =
     let d = done (frame_of r source numbers body) output (write_error c r source numbers body (length output)) size e in
     record { frame_is = d.is_frame; accepted = write_accepted c r source numbers body (length output) d.no_error }

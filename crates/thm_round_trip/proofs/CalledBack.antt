@@ -20,8 +20,7 @@ use Rattle.message.specs.Frames.{Reading}
 use Rattle.records.specs.declared.Record.{Record}
 use Rattle.records.specs.Content.{kind_of}
 use Rattle.writer.specs.Writing.{Writing, written}
-use Rattle.writer.specs.declared.Encoded.{Encoded}
-use Rattle.writer.specs.declared.Encoded.TheVariants.{Frame}
+use Rattle.std.specs.Prelude.{Result, Ok}
 use Rattle.thm_stream.specs.Trace.{Reads}
 use Rattle.thm_stream.proofs.Traced.{all_read}
 use Rattle.refusals.specs.Grounds.{Exactly}
@@ -36,12 +35,12 @@ use Rattle.thm_round_trip.proofs.Exactly.{written_exactly}
 pub all_written : (c : ℕ) (r : Record) (source numbers body output : List ℕ) (w : Writing) → Writes c r source numbers body output w
     → w ≡ written c r source numbers body output
 all_written c r source numbers body output w e =
-    ap (λ (a : Encoded). record { answer = a; output = w.output }) e.0
+    ap (λ (a : Result ℕ ℕ). record { answer = a; output = w.output }) e.0
     ∙ ap (λ (o : List ℕ). record { answer = (written c r source numbers body output).answer; output = o }) e.1
 
 pub called_back : (c : ℕ) (r : Record) (source numbers body output lent : List ℕ) (w : Writing) (size : ℕ) (x : Reading)
     → Held r → 256 ≤ length lent
-    → Writes c r source numbers body output w → w.answer ≡ Frame size → Reads c (kind_of r) (take size w.output) lent x
+    → Writes c r source numbers body output w → w.answer ≡ Ok size → Reads c (kind_of r) (take size w.output) lent x
     → CalledBack c r source numbers body w.output lent size x
 called_back c r source numbers body output lent w size x held long writes framed reads =
     let bounds = held_in_range source r held in
@@ -55,7 +54,7 @@ called_back c r source numbers body output lent w size x held long writes framed
 pub called_back_larger : (c d : ℕ) → c ≤ d → d ≤ max_frame
     → (r : Record) (source numbers body output lent : List ℕ) (w : Writing) (size : ℕ) (x : Reading)
     → Held r → 256 ≤ length lent
-    → Writes c r source numbers body output w → w.answer ≡ Frame size → Reads d (kind_of r) (take size w.output) lent x
+    → Writes c r source numbers body output w → w.answer ≡ Ok size → Reads d (kind_of r) (take size w.output) lent x
     → CalledBack d r source numbers body w.output lent size x
 called_back_larger c d more most r source numbers body output lent w size x held long writes framed reads =
     let bounds = held_in_range source r held in

@@ -24,10 +24,10 @@ use Rattle.fixed_header.specs.Header.{CeilingOk}
 use Rattle.schema.specs.declared.Kind.{Kind}
 use Rattle.records.specs.declared.Record.{Record}
 use Rattle.message.specs.Frames.{Reading}
-use Rattle.message.specs.declared.Answer.TheVariants.{Read}
+use Rattle.std.specs.Prelude.{Ok}
 use Rattle.message.proofs.Under.{read_fits}
 use Rattle.writer.specs.Writing.{Writing, refused_with, wrote, frame_of, write_error, written, count_of}
-use Rattle.writer.specs.declared.Encoded.TheVariants.{Frame}
+use Rattle.std.specs.Prelude.{Ok}
 use Rattle.writer.proofs.Under.{accepted_within}
 use Rattle.thm_stream.specs.Trace.{Reads}
 use Rattle.thm_round_trip.specs.Calls.{Writes}
@@ -57,12 +57,12 @@ module _ (c : ℕ) (r : Record) (source numbers body output : List ℕ) where
       choose Within (eqb error 0) (wrote frame output) (refused_with error output)
       (λ e. wrote_within (accepted_within c r source numbers body (length output) (eqb-true error 0 e)).1) (λ n. refused_within)
 
-count_is : (size : ℕ) → count_of (Frame size) ≡ size
+count_is : (size : ℕ) → count_of (Ok size) ≡ size
 unfolding count_of
 count_is size = refl
 
 pub called_within_ceiling : (c : ℕ) (r : Record) (source numbers body output : List ℕ) (w : Writing)
-    → Writes c r source numbers body output w → (size : ℕ) → w.answer ≡ Frame size
+    → Writes c r source numbers body output w → (size : ℕ) → w.answer ≡ Ok size
     → (size ≤ c) × (drop c w.output ≡ drop c output)
 called_within_ceiling c r source numbers body output w writes size framed =
     let within = written_ceiling c r source numbers body output in
@@ -70,6 +70,6 @@ called_within_ceiling c r source numbers body output w writes size framed =
     (omega (arith, counts, within.0), ap (drop c) writes.1 ∙ within.1)
 
 -- ---- `read`
-pub called_read_fits : (c : ℕ) (kind : Kind) (f lent : List ℕ) (x : Reading) → Reads c kind f lent x → (r : Record) → x.answer ≡ Read r
+pub called_read_fits : (c : ℕ) (kind : Kind) (f lent : List ℕ) (x : Reading) → Reads c kind f lent x → (r : Record) → x.answer ≡ Ok r
     → (length f ≤ c) × CeilingOk c
 called_read_fits c kind f lent x reads r read = read_fits c kind f lent r (sym reads.0 ∙ read)

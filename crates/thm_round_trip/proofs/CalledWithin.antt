@@ -10,7 +10,7 @@ use mathlib.Core.Path.{sym, subst}
 use mathlib.Core.List.{List}
 use lib.ListN.{length}
 use Rattle.message.specs.Frames.{Reading}
-use Rattle.message.specs.Spans.{spans_of}
+use Rattle.message.specs.Spans.{Spans, spans_given, spans_of}
 use Rattle.schema.specs.declared.Kind.{Kind}
 use Rattle.message.specs.declared.Located.{Located}
 use Rattle.thm_stream.specs.Trace.{Reads}
@@ -20,9 +20,9 @@ use Rattle.thm_round_trip.specs.Calls.{Locates}
 use Rattle.thm_round_trip.proofs.ReadWithin.{read_within}
 
 pub located_within : (c : ℕ) (kind : Kind) (frame lent : List ℕ) (x : Located) (rows : List ℕ) → Locates c kind frame lent x rows
-    → ReadWithin frame x rows
+    → ReadWithin frame (spans_given x) rows
 located_within c kind frame lent x rows e =
-    subst (λ (y : Located). ReadWithin frame y rows) (sym e.0) (subst (ReadWithin frame _) (sym e.1) (read_within c frame kind lent))
+    subst (λ (y : Spans). ReadWithin frame y rows) (sym e.0) (subst (ReadWithin frame _) (sym e.1) (read_within c frame kind lent))
 
 pub called_within : (c : ℕ) (kind : Kind) (frame lent : List ℕ) (x : Reading) → Reads c kind frame lent x
     → ReadWithin frame (spans_of x (length frame)) x.rows

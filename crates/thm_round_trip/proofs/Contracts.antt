@@ -21,23 +21,25 @@ use Rattle.message.specs.contracts.read_spans as read_spans
 use Rattle.schema.specs.declared.Kind.{Kind}
 use Rattle.message.specs.declared.Located.{Located}
 use Rattle.records.specs.declared.Record.{Record}
-use Rattle.writer.specs.declared.Encoded.{Encoded}
+use Rattle.refusals.specs.Refusals.{in_numbers}
+use Rattle.refusals.specs.declared.Refusal.{Refusal}
+use Rattle.std.specs.Prelude.{Result}
 use Rattle.records.specs.Records.{record_of}
 use Rattle.writer.specs.contracts.write as write
 use Rattle.writer.specs.contracts.write_slots as write_slots
 use Rattle.thm_round_trip.specs.Calls.{Writes, Locates}
 
 pub write_ensures : {M : Type 1} {𝓤 : Ura M} (𝓛 : Logic 𝓤) (mem : Memory → SProp 𝓤) (run : Routine → Fun 𝓤) (a b c d : Lft)
-    (r : Record) (source rows body : Bor (List ℕ)) (out : MutBor (List ℕ)) (ceiling : ℕ) (answer : Encoded) (after : List ℕ)
+    (r : Record) (source rows body : Bor (List ℕ)) (out : MutBor (List ℕ)) (ceiling : ℕ) (answer : Result ℕ Refusal) (after : List ℕ)
     → (write.clauses 𝓛 mem run (a, (b, (c, (d, tt)))) (r, (source, (rows, (body, (out, (ceiling, tt))))))).ensures tt answer
     (at_exit write.ended (a, (b, (c, (d, tt)))) (r, (source, (rows, (body, (out, (ceiling, tt))))))
     (tt, (tt, (tt, (tt, (after, (tt, tt)))))))
-    ≡ fact 𝓤 (Writes ceiling r source.now rows.now body.now out.now (record { answer = answer; output = after }))
+    ≡ fact 𝓤 (Writes ceiling r source.now rows.now body.now out.now (record { answer = in_numbers answer; output = after }))
 write_ensures 𝓛 mem run a b c d r source rows body out ceiling answer after = refl
 
 pub write_slots_ensures : {M : Type 1} {𝓤 : Ura M} (𝓛 : Logic 𝓤) (mem : Memory → SProp 𝓤) (run : Routine → Fun 𝓤)
     (a b c d : Lft) (kind : Kind) (id version : ℕ) (slots : List ℕ) (count : ℕ) (source rows body : Bor (List ℕ)) (out : MutBor (List ℕ)) (ceiling : ℕ)
-    (answer : Encoded) (after : List ℕ)
+    (answer : Result ℕ Refusal) (after : List ℕ)
     → (write_slots.clauses 𝓛 mem run (a, (b, (c, (d, tt))))
     (kind, (id, (version, (slots, (count, (source, (rows, (body, (out, (ceiling, tt))))))))))).ensures tt answer
     (at_exit write_slots.ended (a, (b, (c, (d, tt))))
@@ -45,7 +47,7 @@ pub write_slots_ensures : {M : Type 1} {𝓤 : Ura M} (𝓛 : Logic 𝓤) (mem :
     (tt, (tt, (tt, (tt, (tt, (tt, (tt, (tt, (after, (tt, tt)))))))))))
     ≡ fact 𝓤
     (Writes ceiling (record_of kind id version slots count) source.now rows.now body.now out.now
-    (record { answer = answer; output = after }))
+    (record { answer = in_numbers answer; output = after }))
 write_slots_ensures 𝓛 mem run a b c d kind id version slots count source rows body out ceiling answer after = refl
 
 -- the record that a call of `write` is passed is of the type that `Held` names

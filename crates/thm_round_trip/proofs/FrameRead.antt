@@ -15,7 +15,7 @@ use Rattle.message.specs.Frames.{Reading, header_of, body_of, last_bytes, with_a
 use Rattle.message.specs.Parts.{Whole}
 use Rattle.schema.specs.declared.Kind.{Kind}
 use Rattle.records.specs.declared.Record.{Record}
-use Rattle.message.specs.declared.Answer.TheVariants.{Read}
+use Rattle.std.specs.Prelude.{Ok}
 use Rattle.decoder.proofs.RowLaws.{rows_in_flat, laid_split, length_rows_in}
 use Rattle.message.proofs.Readings.{its_message}
 use Rattle.message.proofs.Under.{read_under}
@@ -36,7 +36,7 @@ use Rattle.thm_round_trip.proofs.Accepted.{WriteAccepted, rows_kept, attachment_
 abbrev given : Kind → (frame lent : List ℕ) (id version : ℕ) (message body : List ℕ) (attachment : ℕ) → State → Reading
 given kind frame lent id version message body attachment st =
     record {
-      answer = Read (record_of kind id version st.slots (length st.rows));
+      answer = Ok (record_of kind id version st.slots (length st.rows));
       header = message;
       body = body;
       attachment = last_bytes attachment body;

@@ -16,7 +16,7 @@ use Rattle.fixed_header.specs.declared.FixedHeader.{FixedHeader}
 use Rattle.records.specs.declared.Record.{Record}
 use Rattle.records.specs.Content.{kind_of, record_id, record_version}
 use Rattle.writer.specs.Writing.{Writing, header_for, message_of, frame_of}
-use Rattle.writer.specs.declared.Encoded.TheVariants.{Frame}
+use Rattle.std.specs.Prelude.{Ok}
 use Rattle.thm_round_trip.specs.LastTwo.{LastTwo}
 use Rattle.thm_round_trip.specs.Calls.{Held, Writes}
 use Rattle.thm_round_trip.proofs.Accepted.{framed}
@@ -27,7 +27,7 @@ unfolding fixed_header
 put_last h rest = record { byte_15 = refl; byte_16 = refl }
 
 pub last_two_written : (c : ℕ) (r : Record) (source numbers body output : List ℕ) (w : Writing) → Writes c r source numbers body output w
-    → (size : ℕ) → w.answer ≡ Frame size → LastTwo (record_version r % 256) (take size w.output)
+    → (size : ℕ) → w.answer ≡ Ok size → LastTwo (record_version r % 256) (take size w.output)
 unfolding frame_of
 last_two_written c r source numbers body output w writes size is =
     let m = message_of r source numbers in
@@ -41,7 +41,7 @@ pub byte_is : (n : ℕ) → n < 2 ^ 8 → n % 256 ≡ n
 byte_is n h = omega arith
 
 pub version_written : (c : ℕ) (r : Record) (source numbers body output : List ℕ) (w : Writing) → Held r
-    → Writes c r source numbers body output w → (size : ℕ) → w.answer ≡ Frame size → LastTwo (record_version r) (take size w.output)
+    → Writes c r source numbers body output w → (size : ℕ) → w.answer ≡ Ok size → LastTwo (record_version r) (take size w.output)
 version_written c r source numbers body output w held writes size is =
     subst (λ (v : ℕ). LastTwo v (take size w.output)) (byte_is (record_version r) (held_in_range source r held).1.0)
     (last_two_written c r source numbers body output w writes size is)

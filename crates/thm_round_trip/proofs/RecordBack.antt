@@ -14,7 +14,7 @@ use Rattle.schema.specs.declared.Kind.{Kind}
 use Rattle.schema.specs.declared.Kind.TheVariants as kinds
 use Rattle.records.specs.declared.Record.{Record}
 use Rattle.records.specs.declared.Record.TheVariants.{Request, Response, Init, Data, Feedback, Close}
-use Rattle.message.specs.declared.Answer.TheVariants.{Read}
+use Rattle.std.specs.Prelude.{Ok}
 use Rattle.records.specs.Content.{kind_of, record_id, record_version, row_count, mark, slots_of}
 use Rattle.message.specs.Meaning.{Said, unsigned, signed, present, text, fields_of, pairs_of, says, answer_meaning}
 use Rattle.thm_round_trip.specs.InRange.{InRange}
@@ -39,7 +39,7 @@ record_said source (Close r) h =
 
 -- what the record of slots that were read means
 pub read_says : (kind : Kind) (f : List ℕ) (id version : ℕ) (slots : List ℕ) (count : ℕ) (numbers : List ℕ)
-    → answer_meaning (Read (record_of kind id version slots count)) f numbers
+    → answer_meaning (Ok (record_of kind id version slots count)) f numbers
     ≡ says kind id version (said_in f (schema_of kind) 0 slots) (pairs_of f (rows_in count numbers))
 unfolding answer_meaning record_of said_in fields_of kind_of record_id record_version row_count width
 read_says kinds.Request f id version slots count numbers = refl

@@ -23,7 +23,7 @@ use Rattle.schema.specs.declared.Kind.{Kind}
 use Rattle.records.specs.declared.Record.{Record}
 use Rattle.records.specs.Content.{record_id, record_version}
 use Rattle.writer.specs.Writing.{written}
-use Rattle.writer.specs.declared.Encoded.TheVariants.{Frame}
+use Rattle.std.specs.Prelude.{Ok}
 use Rattle.message.specs.Frames.{read_frame}
 use Rattle.message.specs.Meaning.{fields_of}
 use Rattle.thm_round_trip.specs.InRange.{InRange}
@@ -33,7 +33,7 @@ use Rattle.thm_round_trip.proofs.Accepted.{accepted_larger, framed}
 
 pub round_trip : (c : ℕ) (r : Record) (source numbers body output lent : List ℕ) (size : ℕ)
     → record_id r < 2 ^ 32 → record_version r < 2 ^ 8 → InRange (fields_of source r) → 256 ≤ length lent
-    → (written c r source numbers body output).answer ≡ Frame size
+    → (written c r source numbers body output).answer ≡ Ok size
     → ReadsBack c r source numbers body (take size (written c r source numbers body output).output) lent
 round_trip c r source numbers body output lent size id_small version_small in_range long e =
     let w = framed c r source numbers body output size e in
@@ -42,7 +42,7 @@ round_trip c r source numbers body output lent size id_small version_small in_ra
 -- ---- under a larger ceiling
 pub round_trip_larger : (c d : ℕ) → c ≤ d → d ≤ max_frame → (r : Record) (source numbers body output lent : List ℕ) (size : ℕ)
     → record_id r < 2 ^ 32 → record_version r < 2 ^ 8 → InRange (fields_of source r) → 256 ≤ length lent
-    → (written c r source numbers body output).answer ≡ Frame size
+    → (written c r source numbers body output).answer ≡ Ok size
     → ReadsBack d r source numbers body (take size (written c r source numbers body output).output) lent
 round_trip_larger c d more most r source numbers body output lent size id_small version_small in_range long e =
     let w = framed c r source numbers body output size e in
@@ -50,7 +50,7 @@ round_trip_larger c d more most r source numbers body output lent size id_small 
     rw w.frame_is (reads_back d r source numbers body larger id_small version_small lent in_range long)
 
 pub larger_reads_same : (c d : ℕ) → c ≤ d → d ≤ max_frame → (r : Record) (source numbers body output lent : List ℕ) (size : ℕ)
-    → (written c r source numbers body output).answer ≡ Frame size → (kind : Kind)
+    → (written c r source numbers body output).answer ≡ Ok size → (kind : Kind)
     → read_frame d kind (take size (written c r source numbers body output).output) lent
     ≡ read_frame c kind (take size (written c r source numbers body output).output) lent
 larger_reads_same c d more most r source numbers body output lent size e kind =

@@ -34,7 +34,7 @@ use Rattle.records.specs.Content.{kind_of, record_id, record_version, row_count,
 use Rattle.writer_checks.specs.Grounds.{content_error}
 use Rattle.writer.specs.Writing.{frame_type_of, header_size_of, header_for, message_of, frame_of, size_error, write_error}
 use Rattle.writer.specs.Writing.{Writing, refused_with, wrote, written}
-use Rattle.writer.specs.declared.Encoded.TheVariants.{Frame}
+use Rattle.std.specs.Prelude.{Ok}
 use Rattle.refusals.specs.Grounds.{Ground, ground_of, Entry, Exactly}
 use Rattle.refusals.proofs.Tests.{at_most}
 use Rattle.refusals.proofs.Order.{Outcome, Numbered, end, unless, unless_error, exactly}
@@ -173,7 +173,7 @@ unfolding fixed_header
 size_held h rest small = omega arith
 
 pub message_fits : (c : ℕ) (r : Record) (source numbers body output : List ℕ) (w : Writing) → Writes c r source numbers body output w
-    → (size : ℕ) → w.answer ≡ Frame size → MessageFits c (kind_of r) (message_of r source numbers) (take size w.output)
+    → (size : ℕ) → w.answer ≡ Ok size → MessageFits c (kind_of r) (message_of r source numbers) (take size w.output)
 unfolding frame_of
 message_fits c r source numbers body output w writes size is =
     let m = message_of r source numbers in

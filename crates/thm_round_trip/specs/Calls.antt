@@ -5,7 +5,7 @@ use mir.Val.{Val}
 use denote.Laws.{Is}
 use Rattle.records.specs.contracts.Record as declared
 use Rattle.message.specs.Frames.{Reading, read_frame}
-use Rattle.message.specs.Spans.{spans_of}
+use Rattle.message.specs.Spans.{spans_given, spans_of}
 use Rattle.schema.specs.declared.Kind.{Kind}
 use Rattle.message.specs.declared.Located.{Located}
 use Rattle.records.specs.declared.Record.{Record}
@@ -19,7 +19,8 @@ Writes c r source numbers body output w =
     (w.answer ≡ (written c r source numbers body output).answer) × (w.output ≡ (written c r source numbers body output).output)
 
 abbrev pub Locates : (c : ℕ) → Kind → (frame lent : List ℕ) → Located → (rows : List ℕ) → Type 0
-Locates c kind frame lent x rows = (x ≡ spans_of (read_frame c kind frame lent) (length frame)) × (rows ≡ (read_frame c kind frame lent).rows)
+Locates c kind frame lent x rows =
+    (spans_given x ≡ spans_of (read_frame c kind frame lent) (length frame)) × (rows ≡ (read_frame c kind frame lent).rows)
 
 -- A record that a program passes to `write`: it has a machine value, as its declared types lay it out. Every record that a program can make
 -- has one; a number past its 32 bits, or a version past its 8, has none.

@@ -1,5 +1,5 @@
 -- The grounds on which the writer refuses, as propositions in the words of document 01's table and of document 02
-use Rattle.std.specs.Prelude.{ℕ, ◌+◌, ◌*◌, ◌<◌, ◌≡◌, ◌⊎◌, Bool, true, false, List, [], ◌∷◌, ◌++◌, length}
+use Rattle.std.specs.Prelude.{ℕ, ◌+◌, ◌*◌, ◌<◌, ◌≡◌, ◌⊎◌, Bool, true, false, List, [], ◌∷◌, ◌++◌, length, Result, Ok, Err}
 use Rattle.fixed_header.specs.Header.{WrongCeiling}
 use Rattle.decoder.specs.Rows.{Row}
 use Rattle.decoder.specs.Fields.{part_of}
@@ -13,8 +13,6 @@ use Rattle.records.specs.declared.Record.TheVariants as records
 use Rattle.records.specs.Content.{kind_of, row_count, bits, slots_of}
 use Rattle.writer_checks.specs.Grounds.{max_rows, has_map}
 use Rattle.writer.specs.Writing.{rows_of, frame_of, Writing, refused_with, wrote}
-use Rattle.writer.specs.declared.Encoded.{Encoded}
-use Rattle.writer.specs.declared.Encoded.TheVariants.{Frame, Refused}
 use Rattle.refusals.specs.Grounds.{Ground, ground_of, Some, Verdict, refuses, works, Entry}
 
 -- ---- 17
@@ -116,9 +114,9 @@ write_grounds c r source numbers body room =
 
 -- ---- `write`: "A refused record or job is all zero; a refused write counts 0 bytes", "leave rows, output and list untouched"; "Bytes past
 -- the frame stay as they were."
-abbrev pub encoded_says : Encoded → Verdict
-encoded_says (Frame size) = works
-encoded_says (Refused code) = refuses code
+abbrev pub encoded_says : Result ℕ ℕ → Verdict
+encoded_says (Ok size) = works
+encoded_says (Err code) = refuses code
 
 abbrev pub write_entry : (c : ℕ) → Record → (source numbers body output : List ℕ) → Entry Writing
 write_entry c r source numbers body output =

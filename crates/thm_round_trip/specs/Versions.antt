@@ -2,8 +2,8 @@
 use Rattle.std.specs.Prelude.{ℕ}
 use Rattle.records.specs.declared.Record.{Record}
 use Rattle.records.specs.declared.Record.TheVariants.{Request, Response, Init, Data, Feedback, Close}
-use Rattle.message.specs.declared.Answer.{Answer}
-use Rattle.message.specs.declared.Answer.TheVariants.{Read, Refused}
+use Rattle.message.specs.Frames.{Answer}
+use Rattle.std.specs.Prelude.{Ok, Err}
 use Rattle.message.specs.Frames.{Reading}
 
 -- a record with that version: byte 15 of the frame, and not the `version` that is a field of a request's or a response's message
@@ -69,8 +69,8 @@ versioned v (Close r) =
 
 -- a refusal carries no version
 abbrev pub answer_versioned : ℕ → Answer → Answer
-answer_versioned v (Read r) = Read (versioned v r)
-answer_versioned v (Refused code) = Refused code
+answer_versioned v (Ok r) = Ok (versioned v r)
+answer_versioned v (Err code) = Err code
 
 abbrev pub reading_versioned : ℕ → Reading → Reading
 reading_versioned v x =

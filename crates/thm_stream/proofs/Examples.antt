@@ -8,7 +8,7 @@ use Rattle.fixed_header.specs.Header.{stream_type_ok, total_ok, header_size_ok, 
 use Rattle.deframer.specs.Deframe.{fresh, known_of, next_frame, unmoved, deframed, ended}
 use Rattle.deframer.specs.Stream.{stops, uncut_in, uncut}
 use Rattle.deframer.specs.declared.Deframer.{Deframer}
-use Rattle.deframer.specs.declared.End.TheVariants as end
+use Rattle.deframer.specs.End as end
 use Rattle.thm_stream.specs.Calls.{Call, push, finish, push_wrong, finish_wrong, pushed_wrong, finished_wrong, run, taken_of, frames_of}
 
 -- the listing's example: a Feedback of 19 bytes, and one byte more

@@ -29,10 +29,10 @@ use Rattle.thm_stream.specs.Calls.{pushed, finished, pushed_wrong, finished_wron
 use Rattle.thm_stream.specs.Calls.{Offered, taken_of, frame_in, frames_of, Gave, wrong_code}
 use Rattle.thm_stream.specs.Calls.{Explained, Repeats, Final, RefusedBy, Rest, Faithful}
 use Rattle.deframer.specs.declared.Deframer.{Deframer}
-use Rattle.deframer.specs.declared.Progress.{Progress}
-use Rattle.deframer.specs.declared.Progress.TheVariants.{Refused}
-use Rattle.deframer.specs.declared.End.{End}
-use Rattle.deframer.specs.declared.End.TheVariants as end
+use Rattle.deframer.specs.Progress.{Progress}
+use Rattle.deframer.specs.Progress.{Refused}
+use Rattle.deframer.specs.End.{End}
+use Rattle.deframer.specs.End as end
 use Rattle.fixed_header.proofs.Codes.{ceiling_ok_lem, ceiling_range}
 use Rattle.deframer.proofs.Known.{known_short}
 use Rattle.deframer.proofs.Advance.{call_ceiling, call_small, call_unknown, call_refused_lem}

@@ -19,8 +19,8 @@ use Rattle.fixed_header.specs.Header.{CeilingOk}
 use Rattle.deframer.specs.Deframe.{fresh}
 use Rattle.deframer.specs.Stream.{Uncut}
 use Rattle.thm_stream.specs.Calls.{Call, Event, pushed, finished, pushed_wrong, finished_wrong, run, Offered, frames_of, frame_in}
-use Rattle.deframer.specs.declared.Progress.{Progress}
-use Rattle.deframer.specs.declared.Progress.TheVariants.{Frame, NeedMore, Refused}
+use Rattle.deframer.specs.Progress.{Progress}
+use Rattle.deframer.specs.Progress.{Frame, NeedMore, Refused}
 use Rattle.thm_stream.proofs.Faithful.{faithful}
 use Rattle.message.specs.Frames.{Reading, read_frame}
 use Rattle.thm_stream.specs.Readings.{Naming, read_each, read_one, readings_of, ReadFaithfully}

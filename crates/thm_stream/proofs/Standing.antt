@@ -15,9 +15,9 @@ use Rattle.deframer.specs.Deframe.{Out, fresh, known_of, stream, moved, advance,
 use Rattle.deframer.specs.Stream.{Uncut, stops, uncut, laid}
 use Rattle.thm_stream.specs.Calls.{frame_in, Unrefused, Gave, Rest}
 use Rattle.deframer.specs.declared.Deframer.{Deframer}
-use Rattle.deframer.specs.declared.Progress.TheVariants.{Frame, NeedMore, Refused}
-use Rattle.deframer.specs.declared.End.{End}
-use Rattle.deframer.specs.declared.End.TheVariants as end
+use Rattle.deframer.specs.Progress.{Frame, NeedMore, Refused}
+use Rattle.deframer.specs.End.{End}
+use Rattle.deframer.specs.End as end
 use Rattle.deframer.proofs.Lists.{stream_length, stream_head, stream_reach}
 use Rattle.laws.proofs.Lists.{land_length, land_take, land_head}
 use Rattle.fixed_header.proofs.Codes.{ceiling_ok_lem, good_total}

@@ -20,13 +20,13 @@ use Rattle.deframer.specs.Deframe.{Out, fresh, deframed}
 use Rattle.thm_stream.specs.Calls.{Call, push, finish, push_wrong, finish_wrong, Event, pushed}
 use Rattle.thm_stream.specs.Calls.{finished, pushed_wrong, finished_wrong, run, Offered, frame_in, frames_of}
 use Rattle.deframer.specs.declared.Deframer.{Deframer}
-use Rattle.deframer.specs.declared.Step.{Step}
-use Rattle.deframer.specs.declared.Progress.{Progress}
-use Rattle.deframer.specs.declared.Progress.TheVariants.{Frame, NeedMore, Refused}
-use Rattle.deframer.specs.declared.End.{End}
+use Rattle.deframer.specs.Step.{Step}
+use Rattle.deframer.specs.Progress.{Progress}
+use Rattle.deframer.specs.Progress.{Frame, NeedMore, Refused}
+use Rattle.deframer.specs.End.{End}
 use Rattle.message.specs.Frames.{Reading, read_frame}
 use Rattle.schema.specs.declared.Kind.{Kind}
-use Rattle.message.specs.declared.Answer.{Answer}
+use Rattle.message.specs.Frames.{Answer}
 use Rattle.thm_stream.specs.Readings.{Naming, read_each, ReadFaithfully}
 use Rattle.thm_stream.proofs.FaithfulReading.{read_faithfully}
 use Rattle.thm_stream.specs.Trace.{Deframes, Reads, Trace, NextFrame, EachFrame, of_each, ReadAsNamed, TracedFaithfully}

@@ -6,10 +6,10 @@ use Rattle.fixed_header.specs.Header.{ceiling_ok, header_error}
 use Rattle.deframer.specs.Deframe.{Out, known_of, deframed, ended, unmoved, is_refused}
 use Rattle.deframer.specs.Stream.{Uncut, uncut, laid, Start}
 use Rattle.deframer.specs.declared.Deframer.{Deframer}
-use Rattle.deframer.specs.declared.Progress.{Progress}
-use Rattle.deframer.specs.declared.Progress.TheVariants.{Frame, NeedMore, Refused}
-use Rattle.deframer.specs.declared.End.{End}
-use Rattle.deframer.specs.declared.End.TheVariants as end
+use Rattle.deframer.specs.Progress.{Progress}
+use Rattle.deframer.specs.Progress.{Frame, NeedMore, Refused}
+use Rattle.deframer.specs.End.{End}
+use Rattle.deframer.specs.End as end
 
 -- ---- the calls, and what they gave
 

@@ -3,9 +3,9 @@
 use Rattle.std.specs.Prelude.{ℕ, suc, ◌≡◌, ◌⊎◌, List, [], ◌∷◌, take}
 use Rattle.deframer.specs.Stream.{uncut}
 use Rattle.thm_stream.specs.Calls.{Event, pushed, finished, pushed_wrong, finished_wrong, taken_of, RefusedBy, EndedBy, Faithful}
-use Rattle.deframer.specs.declared.Progress.{Progress}
-use Rattle.deframer.specs.declared.Progress.TheVariants.{Frame, NeedMore, Refused}
-use Rattle.deframer.specs.declared.End.{End}
+use Rattle.deframer.specs.Progress.{Progress}
+use Rattle.deframer.specs.Progress.{Frame, NeedMore, Refused}
+use Rattle.deframer.specs.End.{End}
 use Rattle.message.specs.Frames.{Reading, read_frame}
 use Rattle.schema.specs.declared.Kind.{Kind}
 

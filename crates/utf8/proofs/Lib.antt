@@ -8,7 +8,7 @@ pub mod Accepted
 mod Cases
 mod Firsts
 mod Steps
-mod Judged
+mod Goes
 mod Encodings
 mod Numbers
 mod Decoded

@@ -3,3 +3,5 @@ pub mod Grammar
 -- what most texts are
 pub mod Ascii
 pub mod Encoding
+-- for the private functions
+pub mod Begun

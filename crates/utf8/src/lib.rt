@@ -1,145 +1,126 @@
 // Whether bytes are UTF-8 by RFC 3629: shortest form, no surrogates, nothing above U+10FFFF.
 #![tactic(auto)]
 
-ghost use Rattle.std.specs.Prelude.{◌≡◌, ◌+◌, ◌≤◌, length, take, drop};
+ghost use Rattle.std.specs.Prelude.{◌≡◌, ◌∷◌, List, ℕ};
 ghost use Rattle.utf8.specs.Grammar as grammar;
 ghost use Rattle.utf8.specs.Ascii.{ascii};
+ghost use Rattle.utf8.specs.Begun.{first, goes_on};
 
-// How many bytes follow a character's first byte; 4 where no character begins with it.
-fn follows(b: u8) -> u8
-    ensures { result ≡ grammar.follows b }
+// A character that is begun: how many of its bytes are to come, and from which to which the next may be.
+#[derive(Clone, Copy)]
+struct Begun {
+    need: u8,
+    lo: u8,
+    hi: u8,
+}
+
+// Between two characters no byte is needed.
+const BETWEEN: Begun = Begun {
+    need: 0,
+    lo: 0x80,
+    hi: 0xBF,
+};
+
+// How many bytes follow a character's first byte, where one begins with it.
+#[tactic(auto, using(std::proofs::lemmas::Bool::Decides::nat_tests), unfolding(crate::specs::Grammar::follows))]
+fn follows(b: u8) -> Option<u8>
+    ensures { result ≡ first b }
 {
-    if b <= 0x7F {
-        return 0;
+    match b {
+        ..=0x7F => Some(0),
+        ..=0xC1 => None,
+        ..=0xDF => Some(1),
+        ..=0xEF => Some(2),
+        ..=0xF4 => Some(3),
+        _ => None,
     }
-    if b <= 0xC1 {
-        return 4;
-    }
-    if b <= 0xDF {
-        return 1;
-    }
-    if b <= 0xEF {
-        return 2;
-    }
-    if b <= 0xF4 {
-        return 3;
-    }
-    4
 }
 
 // The lowest byte that may come after this first one.
+#[tactic(auto, using(std::proofs::lemmas::Bool::Decides::nat_tests), unfolding(crate::specs::Grammar::lowest))]
 fn lowest(b: u8) -> u8
     ensures { result ≡ grammar.lowest b }
 {
-    if b == 0xE0 {
-        return 0xA0;
+    match b {
+        0xE0 => 0xA0,
+        0xF0 => 0x90,
+        _ => 0x80,
     }
-    if b == 0xF0 {
-        return 0x90;
-    }
-    0x80
 }
 
 // The highest.
+#[tactic(auto, using(std::proofs::lemmas::Bool::Decides::nat_tests), unfolding(crate::specs::Grammar::highest))]
 fn highest(b: u8) -> u8
     ensures { result ≡ grammar.highest b }
 {
-    if b == 0xED {
-        return 0x9F;
+    match b {
+        0xED => 0x9F,
+        0xF4 => 0x8F,
+        _ => 0xBF,
     }
-    if b == 0xF4 {
-        return 0x8F;
-    }
-    0xBF
 }
 
-// By the grammar, byte by byte: `need` bytes of a character are to come, the next from `lo` to `hi`.
+impl Begun {
+    // What is begun after one byte more, if that byte may come.
+    fn after(self, b: u8) -> Option<Begun>
+        ensures { (s : List ℕ) → goes_on (Some self) (b ∷ s) ≡ goes_on result s }
+    {
+        if self.need == 0 {
+            return Some(Begun {
+                need: follows(b)?,
+                lo: lowest(b),
+                hi: highest(b),
+            });
+        }
+        if b < self.lo || self.hi < b {
+            return None;
+        }
+        Some(Begun {
+            need: self.need - 1,
+            ..BETWEEN
+        })
+    }
+}
+
+// By the grammar, byte by byte.
 fn by_grammar(s: &[u8]) -> bool
     ensures { result ≡ grammar.utf8 s.now }
 {
-    let mut need: u8 = 0;
-    let mut lo: u8 = 0x80;
-    let mut hi: u8 = 0xBF;
-    let mut i = 0;
-    while i < s.len() {
-        let b = s[i];
-        i += 1;
-        if need == 0 {
-            if b < 0x80 {
-                continue;
-            }
-            need = follows(b);
-            if need > 3 {
-                return false;
-            }
-            lo = lowest(b);
-            hi = highest(b);
-            continue;
-        }
-        if b < lo {
+    let mut begun = BETWEEN;
+    for b in s {
+        let Some(next) = begun.after(*b) else {
             return false;
-        }
-        if b > hi {
-            return false;
-        }
-        need -= 1;
-        lo = 0x80;
-        hi = 0xBF;
+        };
+        begun = next;
     }
-    need == 0
+    begun.need == 0
 }
 
 // ---- ASCII, eight bytes at a time
 
-// Whether the eight bytes from `at` are ASCII. The compiler makes one test of the eight comparisons.
-fn ascii_8(s: &[u8], at: usize) -> bool
-    requires { at + 8 ≤ length s.now }
-    ensures { result ≡ ascii (take 8 (drop at s.now)) }
+// The compiler makes one test of the eight comparisons.
+fn ascii_8(eight: &[u8; 8]) -> bool
+    ensures { result ≡ ascii eight.now }
 {
-    let low = (s[at] < 0x80) & (s[at + 1] < 0x80) & (s[at + 2] < 0x80) & (s[at + 3] < 0x80);
-    low & (s[at + 4] < 0x80) & (s[at + 5] < 0x80) & (s[at + 6] < 0x80) & (s[at + 7] < 0x80)
+    eight.iter().fold(true, |low, b| low & (*b < 0x80))
 }
 
-// One by one.
-fn ascii_short(s: &[u8]) -> bool
-    ensures { result ≡ ascii s.now }
-{
-    let mut i = 0;
-    while i < s.len() {
-        if s[i] >= 0x80 {
-            return false;
-        }
-        i += 1;
-    }
-    true
-}
-
-// Whether all bytes are ASCII: each eight of them that end before the last byte, and the last eight, which may overlap them.
+// Whether all bytes are ASCII: each eight of them from the start, and the last eight, which may overlap them.
 pub fn is_ascii(s: &[u8]) -> bool
     ensures { result ≡ ascii s.now }
 {
-    let n = s.len();
-    if n < 8 {
-        return ascii_short(s);
-    }
-    let mut i = 8;
-    while i < n {
-        if !ascii_8(s, i - 8) {
-            return false;
-        }
-        i += 8;
-    }
-    ascii_8(s, n - 8)
+    let Some(last) = s.last_chunk::<8>() else {
+        return s.iter().all(|b| *b < 0x80);
+    };
+    s.as_chunks::<8>().0.iter().all(ascii_8) && ascii_8(last)
 }
 
 // ---- UTF-8
 
 // Whether the bytes are UTF-8. Most texts are ASCII.
+#[tactic(auto, using(crate::proofs::AsciiLaws::ascii_is_utf8))]
 pub fn is_utf8(s: &[u8]) -> bool
     ensures { result ≡ grammar.utf8 s.now }
 {
-    if is_ascii(s) {
-        return true;
-    }
-    by_grammar(s)
+    is_ascii(s) || by_grammar(s)
 }

@@ -13,11 +13,15 @@ use native.Mathlib.Numerals.{add-one}
 use native.Mathlib.Omega.{arith}
 use native.Mathlib.Nat.{mod-eq_of_lt, mod-lt}
 use borrow.Author.Tests.{leb-true, leb-false, eqb-true, lt-ltb, le-ltb}
+use Rattle.std.specs.Prelude.{Result, Ok, Err}
 use Rattle.wire_read.specs.Part.{part}
 use Rattle.wire_read.specs.Varint.{VarintResult, got, bad, joined, groups, varint}
 use Rattle.wire_read.specs.Placed.{varint_at}
-use Rattle.wire_read.specs.declared.Varint.TheVariants.{Value, Refused}
+use Rattle.wire_read.specs.declared.Varint.{Varint}
 use Rattle.wire_read.proofs.PartLaws.{part_empty, part_cons}
+
+abbrev read : ℕ → ℕ → Result Varint ℕ
+read value next = Ok (record { value = value; next = next })
 
 -- `value`, of `shift` bits, below what the later bytes give
 unfoldable pub over : ℕ → ℕ → VarintResult → VarintResult
@@ -61,11 +65,11 @@ regroup value low v p = omega arith
 over_joined : (value shift i low : ℕ) (g : VarintResult)
     → varint_at i (over value shift (joined low g)) ≡ varint_at (i + 1) (over (value + low * 2 ^ shift) (shift + 7) g)
 unfolding varint_at over joined
-over_joined value shift i low (got v used) = ap₂ Value (rw (pow-add 2 shift 7) (regroup value low v (2 ^ shift))) (omega arith)
+over_joined value shift i low (got v used) = ap₂ read (rw (pow-add 2 shift 7) (regroup value low v (2 ^ shift))) (omega arith)
 over_joined value shift i low bad = refl
 
 module _ (s : List ℕ) (at end stop value shift i : ℕ) (j : Joining s at end stop value shift i) where
-  pub cut_off : stop ≤ i → Refused 10 ≡ varint_at at (varint (part s at end))
+  pub cut_off : stop ≤ i → Err 10 ≡ varint_at at (varint (part s at end))
   unfolding varint_at over
   cut_off h = sym (j.rest ∙ rw (part_empty s i end (omega (arith, j.is_stop)), groups_nil (10 - (i - at))))
 
@@ -95,7 +99,7 @@ module _ (s : List ℕ) (at end stop value shift i : ℕ) (j : Joining s at end 
         let mask : bit_and b 127 ≡ b % 128 = and_mask b 7 in
         rw (mask, mod-eq_of_lt (small fit), or_shifted_r (b % 128) shift value j.low) (omega arith)
 
-    pub too_big : shift ≡ 63 → 1 < b → Refused 10 ≡ varint_at at (varint (part s at end))
+    pub too_big : shift ≡ 63 → 1 < b → Err 10 ≡ varint_at at (varint (part s at end))
     unfolding varint_at over joined groups
     too_big e h =
         let last : 9 - (i - at) ≡ 0 = omega (arith, j.shifted) in
@@ -113,7 +117,7 @@ module _ (s : List ℕ) (at end stop value shift i : ℕ) (j : Joining s at end 
         by false e = refl
 
     pub found : (shift ≡ 63 → b ≤ 1) → b < 128
-        → Value (bit_or value ((bit_and b 127 * 2 ^ shift) % 18446744073709551616)) (i + 1) ≡ varint_at at (varint (part s at end))
+        → read (bit_or value ((bit_and b 127 * 2 ^ shift) % 18446744073709551616)) (i + 1) ≡ varint_at at (varint (part s at end))
     unfolding varint_at over
     found fit h = sym (j.rest ∙ rw (next, lt-ltb b 128 h, last_fits fit, group_joined fit, mod-eq_of_lt h))
 

@@ -12,7 +12,6 @@ pub mod SignedLaws
 pub mod Examples
 -- For the proofs of this crate's functions.
 mod Joining
-mod WireTypes
 mod Groups
 mod MadeOf
 mod FixedLaws

@@ -6,7 +6,8 @@ use Rattle.wire_read.specs.Varint.{joined, groups, varint}
 use Rattle.wire_read.specs.Tags.{wire_type, split, tag, length_within, length_prefix}
 use Rattle.wire_read.specs.Skipping.{skip_after, skip_varint, skip_fixed, skip_bytes, value, in_group, group_in}
 use Rattle.wire_read.specs.Fields.{little_endian, content, field_after, next_field}
-use Rattle.wire_read.specs.Placed.{field_at}
+use Rattle.std.specs.Prelude.{Some, None, Ok, Err}
+use Rattle.wire_read.specs.Placed.{FieldAnswer, field_at}
 use Rattle.wire_read.specs.declared.Field.{Field}
 use Rattle.wire_read.specs.declared.Field.TheVariants as fields
 use Rattle.wire_walk.specs.Reader.{used_by}
@@ -16,34 +17,38 @@ use Rattle.wire_walk.specs.Last.{last_of, last_field}
 record Row : Type 0 where
   bytes : List ℕ
   -- what a new reader answers, call by call
-  answers : List Field
+  answers : List FieldAnswer
   tag : ℕ
-  last : Field
+  last : FieldAnswer
+
+-- the answer of a field
+abbrev found : Field → FieldAnswer
+found f = Ok (Some f)
 
 rows : List Row
 rows =
-    record { bytes = []; answers = fields.End ∷ []; tag = 32; last = fields.End }
+    record { bytes = []; answers = Ok None ∷ []; tag = 32; last = Ok None }
     -- "request 20 05 20 07: timeout 7"
     ∷ record {
       bytes = 0x20 ∷ 0x05 ∷ 0x20 ∷ 0x07 ∷ [];
-      answers = fields.Varint 4 5 2 ∷ fields.Varint 4 7 4 ∷ fields.End ∷ [];
+      answers = found (fields.Varint 4 5 2) ∷ found (fields.Varint 4 7 4) ∷ Ok None ∷ [];
       tag = 32;
-      last = fields.Varint 4 7 4;
+      last = found (fields.Varint 4 7 4);
     }
     -- field 4 with another wire type after it is skipped
     ∷ record {
       bytes = 0x20 ∷ 0x05 ∷ 0x22 ∷ 0x01 ∷ 0x07 ∷ [];
-      answers = fields.Varint 4 5 2 ∷ fields.Bytes 4 4 1 ∷ fields.End ∷ [];
+      answers = found (fields.Varint 4 5 2) ∷ found (fields.Bytes 4 4 1) ∷ Ok None ∷ [];
       tag = 32;
-      last = fields.Varint 4 5 2;
+      last = found (fields.Varint 4 5 2);
     }
     -- "request 7B 7C: skipped; 7B 84 01: 11"
-    ∷ record { bytes = 0x7B ∷ 0x7C ∷ []; answers = fields.Group 15 2 ∷ fields.End ∷ []; tag = 32; last = fields.End }
+    ∷ record { bytes = 0x7B ∷ 0x7C ∷ []; answers = found (fields.Group 15 2) ∷ Ok None ∷ []; tag = 32; last = Ok None }
     ∷ record {
       bytes = 0x20 ∷ 0x05 ∷ 0x7B ∷ 0x84 ∷ 0x01 ∷ [];
-      answers = fields.Varint 4 5 2 ∷ fields.Refused 11 ∷ [];
+      answers = found (fields.Varint 4 5 2) ∷ Err 11 ∷ [];
       tag = 32;
-      last = fields.Refused 11;
+      last = Err 11;
     }
     ∷ []
 

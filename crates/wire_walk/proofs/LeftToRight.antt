@@ -9,19 +9,20 @@
 --
 -- It rules out a reader that leaves out a field or gives one twice (`fields`), and one that moves on after the end or a refusal (`stays`).
 use Prim.Native.Nat.{ℕ, zero, suc, pred, ◌+◌, ◌≤◌}
-use mathlib.Core.Path.{◌≡◌, refl, sym, ap, subst, ◌∙◌}
+use mathlib.Core.Path.{◌≡◌, refl, sym, ap, ap₂, subst, ◌∙◌}
 use mathlib.Core.List.{List, [], ◌∷◌}
 use lib.ListN.{length, drop, length-drop}
 use lib.Seq.{drop-drop}
 use native.Mathlib.Omega.{arith}
 use denote.Ref.{Bor}
 use Rattle.wire_read.specs.Fields.{FieldResult, next_field}
-use Rattle.wire_read.specs.Placed.{field_at}
-use Rattle.wire_read.specs.declared.Field.{Field}
-use Rattle.wire_walk.specs.Reader.{used_by, place_behind, step_at, reader_of, next_of}
+use Rattle.std.specs.Prelude.{Some, None, Ok, Err}
+use Rattle.wire_read.specs.Placed.{FieldAnswer, field_at}
+use Rattle.wire_walk.specs.Reader.{used_by, place_behind, stepped, step_at, reader_of, next_of, found_by, reader_after}
+use Rattle.wire_walk.specs.Reader.{moved as moved_to}
 use Rattle.wire_walk.specs.Walk.{walk, placed, bytes_taken, answers_of, after, Walks}
 use Rattle.wire_walk.specs.declared.FieldReader.{FieldReader}
-use Rattle.wire_walk.proofs.StepLaws.{used_in}
+use Rattle.wire_walk.proofs.StepLaws.{used_in, used_none, used_error}
 use Rattle.wire_walk.proofs.WalkLaws.{walk_last, walk_more, walk_some}
 
 -- the reader at another place of its bytes
@@ -36,27 +37,38 @@ module _ (r : FieldReader) where
   abbrev found : FieldResult
   found = next_field left
 
-  next_field_lem : (next_of r).field ≡ field_at r.at found
+  next_field_lem : found_by (next_of r) ≡ field_at r.at found
   unfolding step_at
-  next_field_lem = refl
+  next_field_lem = by (field_at r.at found)
+    where
+      by : (x : FieldAnswer) → found_by (moved_to r.bytes (stepped (place_behind r.bytes.now r.at) x)) ≡ x
+      by (Ok None) = refl
+      by (Ok (Some f)) = refl
+      by (Err code) = refl
 
-  next_reader : (next_of r).reader ≡ moved r (r.at + used_by found)
+  next_reader : reader_after r (next_of r) ≡ moved r (r.at + used_by found)
   unfolding step_at place_behind
-  next_reader = refl
+  next_reader = by (field_at r.at found) refl
+    where
+      by : (x : FieldAnswer) → field_at r.at found ≡ x
+          → reader_after r (moved_to r.bytes (stepped (r.at + used_by found) x)) ≡ moved r (r.at + used_by found)
+      by (Ok None) q = let none = used_none r.at found q in ap (moved r) (omega arith)
+      by (Ok (Some f)) q = refl
+      by (Err code) q = let none = used_error r.at found q in ap (moved r) (omega arith)
 
   -- at the end and at a refusal it stays, however often it is asked
   at_rest : used_by found ≡ 0 → (n : ℕ) → after n r ≡ r
   unfolding after
   at_rest e zero = refl
   at_rest e (suc n) =
-      let same : (next_of r).reader ≡ r = next_reader ∙ ap (moved r) (omega arith) in
+      let same : reader_after r (next_of r) ≡ r = next_reader ∙ ap (moved r) (omega arith) in
       ap (after n) same ∙ at_rest e n
 
   walks_last : used_by found ≡ 0 → Walks r (found ∷ [])
   unfolding answers_of placed bytes_taken
   walks_last e =
       record {
-        fields = ap (λ (f : Field). f ∷ []) next_field_lem;
+        fields = ap (λ (x : FieldAnswer). x ∷ []) next_field_lem;
         stays = λ n. let none : 0 + n ≡ n = omega arith in ap (λ (k : ℕ). after k r) none ∙ at_rest e n ∙ ap (moved r) (omega arith);
       }
 
@@ -64,10 +76,10 @@ module _ (r : FieldReader) where
   unfolding answers_of after placed bytes_taken step_at place_behind
   walks_more w some h =
       record {
-        fields = ap (λ (fs : List Field). field_at r.at found ∷ fs) h.fields;
+        fields = ap₂ (λ (x : FieldAnswer) (xs : List FieldAnswer). x ∷ xs) next_field_lem (ap (answers_of (length w)) next_reader ∙ h.fields);
         stays =
-            λ n. let one : length w + n ≡ suc (pred (length w) + n) = omega arith in ap (λ (k : ℕ). after k r) one ∙ h.stays n
-            ∙ ap (moved r) (omega arith);
+            λ n. let one : length w + n ≡ suc (pred (length w) + n) = omega arith in ap (λ (k : ℕ). after k r) one
+            ∙ ap (after (pred (length w) + n)) next_reader ∙ h.stays n ∙ ap (moved r) (omega arith);
       }
 
   -- `more` is the walk after a field that was found

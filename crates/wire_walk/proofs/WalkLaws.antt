@@ -6,8 +6,8 @@ use lib.ListN.{length, drop, length-drop}
 use lib.Seq.{drop-drop}
 use native.Mathlib.Omega.{arith}
 use Rattle.wire_read.specs.Fields.{FieldResult, next_field}
-use Rattle.wire_read.specs.declared.Field.{Field}
-use Rattle.wire_walk.specs.Reader.{used_by, place_behind, step_at}
+use Rattle.wire_read.specs.Placed.{FieldAnswer, field_at}
+use Rattle.wire_walk.specs.Reader.{used_by, place_behind}
 use Rattle.wire_walk.specs.Walk.{onward, walk_in, walk, placed}
 use Rattle.wire_walk.proofs.StepLaws.{used_in}
 
@@ -61,16 +61,20 @@ walk_some s = by (length s)
     by (suc k) = refl
 
 -- the answers of the walk from place `at` on
-abbrev pub answers_from : List ℕ → ℕ → List Field
+abbrev pub answers_from : List ℕ → ℕ → List FieldAnswer
 answers_from s at = placed at (walk (drop at s))
 
 module _ (s : List ℕ) (at : ℕ) where
-  pub answers_last : place_behind s at ≤ at → answers_from s at ≡ (step_at s at).field ∷ []
-  unfolding placed step_at place_behind
-  answers_last h = let none : used_by (next_field (drop at s)) ≡ 0 = omega arith in rw (walk_last (drop at s) none)
+  -- what is at the place
+  abbrev here : FieldAnswer
+  here = field_at at (next_field (drop at s))
 
-  pub answers_more : at < place_behind s at → answers_from s at ≡ (step_at s at).field ∷ answers_from s (place_behind s at)
-  unfolding placed step_at place_behind
+  pub answers_last : used_by (next_field (drop at s)) ≡ 0 → answers_from s at ≡ here ∷ []
+  unfolding placed
+  answers_last none = rw (walk_last (drop at s) none)
+
+  pub answers_more : 0 < used_by (next_field (drop at s)) → answers_from s at ≡ here ∷ answers_from s (place_behind s at)
+  unfolding placed place_behind
   answers_more h =
       let n : ℕ = pred (used_by (next_field (drop at s))) in
       let some : used_by (next_field (drop at s)) ≡ suc n = omega arith in

@@ -1,9 +1,9 @@
 -- "The field walk is a reader that refers to the lent header bytes with its place in them."
-use Rattle.std.specs.Prelude.{ℕ, ◌+◌, List, drop}
+use Rattle.std.specs.Prelude.{ℕ, ◌+◌, List, drop, Option, Some, None, Result, Ok, Err}
 use Rattle.std.specs.Borrow.{Bor}
 use Rattle.wire_read.specs.Fields.{FieldResult, no_field, varint_field, fixed64_field, bytes_field, group_field, fixed32_field, field_error}
 use Rattle.wire_read.specs.Fields.{next_field}
-use Rattle.wire_read.specs.Placed.{field_at}
+use Rattle.wire_read.specs.Placed.{FieldAnswer, field_at}
 use Rattle.wire_walk.specs.declared.FieldReader.{FieldReader}
 use Rattle.wire_walk.specs.declared.Moved.{Moved}
 use Rattle.wire_walk.specs.declared.Step.{Step}
@@ -22,17 +22,38 @@ used_by (field_error code) = 0
 unfoldable pub place_behind : List ℕ → ℕ → ℕ
 place_behind s at = at + used_by (next_field (drop at s))
 
--- what is at place `at`, and the place after it
-unfoldable pub step_at : List ℕ → ℕ → Step
-step_at s at = record { field = field_at at (next_field (drop at s)); at = place_behind s at }
+-- a field with the place after it
+abbrev pub stepped : ℕ → FieldAnswer → Result (Option Step) ℕ
+stepped next (Ok None) = Ok None
+stepped next (Ok (Some f)) = Ok (Some (record { field = f; at = next }))
+stepped next (Err code) = Err code
+
+-- the field at place `at`, and the place after it; none at the end of the bytes
+unfoldable pub step_at : List ℕ → ℕ → Result (Option Step) ℕ
+step_at s at = stepped (place_behind s at) (field_at at (next_field (drop at s)))
 
 -- a reader of these bytes, at their first
 abbrev pub reader_of : Bor (List ℕ) → FieldReader
 reader_of s = record { bytes = s; at = 0 }
 
--- what a reader finds at its place, and the reader after it, which refers to the same bytes
-abbrev pub next_of : FieldReader → Moved
-next_of r = record {
-  field = (step_at r.bytes.now r.at).field;
-  reader = record { bytes = r.bytes; at = (step_at r.bytes.now r.at).at };
-}
+-- a field with the reader after it, which refers to the same bytes
+abbrev pub moved : Bor (List ℕ) → Result (Option Step) ℕ → Result (Option Moved) ℕ
+moved s (Ok None) = Ok None
+moved s (Ok (Some x)) = Ok (Some (record { field = x.field; reader = record { bytes = s; at = x.at } }))
+moved s (Err code) = Err code
+
+-- what a reader answers: the field at its place, and the reader after it
+abbrev pub next_of : FieldReader → Result (Option Moved) ℕ
+next_of r = moved r.bytes (step_at r.bytes.now r.at)
+
+-- the field in an answer
+abbrev pub found_by : Result (Option Moved) ℕ → FieldAnswer
+found_by (Ok None) = Ok None
+found_by (Ok (Some m)) = Ok (Some m.field)
+found_by (Err code) = Err code
+
+-- the reader after an answer of `r`: `r` itself at the end of its bytes and where a field is refused
+abbrev pub reader_after : FieldReader → Result (Option Moved) ℕ → FieldReader
+reader_after r (Ok None) = r
+reader_after r (Ok (Some m)) = m.reader
+reader_after r (Err code) = r

@@ -1,9 +1,8 @@
 -- The fields of a byte string from left to right, and what any number of calls of `next` answers.
 use Rattle.std.specs.Prelude.{ℕ, zero, suc, pred, ◌+◌, ◌≡◌, List, [], ◌∷◌, length, drop}
 use Rattle.wire_read.specs.Fields.{FieldResult, next_field}
-use Rattle.wire_read.specs.Placed.{field_at}
-use Rattle.wire_read.specs.declared.Field.{Field}
-use Rattle.wire_walk.specs.Reader.{used_by, next_of}
+use Rattle.wire_read.specs.Placed.{FieldAnswer, field_at}
+use Rattle.wire_walk.specs.Reader.{used_by, next_of, found_by, reader_after}
 use Rattle.wire_walk.specs.declared.FieldReader.{FieldReader}
 
 -- what follows a field that took `used` bytes: nothing after the end or a refusal, which take none
@@ -22,7 +21,7 @@ unfoldable pub walk : List ℕ → List FieldResult
 walk s = walk_in (length s) s
 
 -- the same as the code answers them, with their places: the first at place `at`, each after the one before
-unfoldable pub placed : ℕ → List FieldResult → List Field
+unfoldable pub placed : ℕ → List FieldResult → List FieldAnswer
 placed at [] = []
 placed at (f ∷ fs) = field_at at f ∷ placed (at + used_by f) fs
 
@@ -31,15 +30,15 @@ unfoldable pub bytes_taken : List FieldResult → ℕ
 bytes_taken [] = 0
 bytes_taken (f ∷ fs) = used_by f + bytes_taken fs
 
--- what `n` calls of `next` answer, each on the reader that the one before moved
-unfoldable pub answers_of : ℕ → FieldReader → List Field
+-- what `n` calls of `next` answer, each on the reader after the one before
+unfoldable pub answers_of : ℕ → FieldReader → List FieldAnswer
 answers_of zero r = []
-answers_of (suc n) r = (next_of r).field ∷ answers_of n (next_of r).reader
+answers_of (suc n) r = found_by (next_of r) ∷ answers_of n (reader_after r (next_of r))
 
 -- and the reader after them
 unfoldable pub after : ℕ → FieldReader → FieldReader
 after zero r = r
-after (suc n) r = after n (next_of r).reader
+after (suc n) r = after n (reader_after r (next_of r))
 
 -- The statement: calls of `next` from any reader walk the fields from its place on. `w` is the walk over what is left of its bytes.
 pub record Walks (r : FieldReader) (w : List FieldResult) : Type 0 where

@@ -7,10 +7,12 @@ mod last;
 mod walk;
 
 ghost use Rattle.std.specs.Prelude.{◌≡◌};
+ghost use Rattle.refusals.specs.Refusals.{in_numbers};
 ghost use Rattle.wire_walk.specs.Reader.{step_at, reader_of, next_of};
 ghost use Rattle.wire_walk.specs.Last.{last_field};
 
 use last::later;
+use refusals::Refusal;
 use wire_read::Field;
 
 // Document 01's reader: the lent bytes and its place in them, where the next field is to start.
@@ -20,14 +22,14 @@ pub struct FieldReader<'a> {
     pub at: usize,
 }
 
-// What a reader found at its place, and the reader after it.
+// A field that a reader found at its place, and the reader after it.
 #[derive(Clone, Copy)]
 pub struct Moved<'a> {
     pub field: Field,
     pub reader: FieldReader<'a>,
 }
 
-// What is at a place of the bytes, and the place after it.
+// A field at a place of the bytes, and the place after it.
 #[derive(Clone, Copy)]
 pub struct Step {
     pub field: Field,
@@ -42,19 +44,22 @@ impl<'a> FieldReader<'a> {
         FieldReader { bytes, at: 0 }
     }
 
-    // The field at the reader's place, and the reader after it. At the end of the bytes, and where a
-    // field is refused, the reader stays.
-    pub fn next(self) -> Moved<'a>
-        ensures { result ≡ next_of self.entry }
+    // The field at the reader's place, and the reader after it; none at the end of the bytes. There, and
+    // where a field is refused, the reader that was asked stays.
+    #[inline(always)]
+    pub fn next(self) -> Result<Option<Moved<'a>>, Refusal>
+        ensures { in_numbers result ≡ next_of self.entry }
     {
-        let step = walk::step_at(self.bytes, self.at);
-        Moved {
+        let Some(step) = walk::step_at(self.bytes, self.at)? else {
+            return Ok(None);
+        };
+        Ok(Some(Moved {
             field: step.field,
             reader: FieldReader {
                 bytes: self.bytes,
                 at: step.at,
             },
-        }
+        }))
     }
 
     // The reader's place: how many bytes come before it.
@@ -66,31 +71,30 @@ impl<'a> FieldReader<'a> {
 }
 
 // What a reader at this place answers, for callers that keep the place themselves.
-pub fn field_at(bytes: &[u8], at: usize) -> Step
-    ensures { result ≡ step_at bytes.now at }
+#[inline(always)]
+pub fn field_at(bytes: &[u8], at: usize) -> Result<Option<Step>, Refusal>
+    ensures { in_numbers result ≡ step_at bytes.now at }
 {
-    let moved = FieldReader { bytes, at }.next();
-    Step {
+    let Some(moved) = (FieldReader { bytes, at }).next()? else {
+        return Ok(None);
+    };
+    Ok(Some(Step {
         field: moved.field,
         at: moved.reader.at,
-    }
+    }))
 }
 
 // The last field with this tag, field number times 8 plus wire type: "The last occurrence of a field
-// wins". `End` where there is none; the refusal where the bytes are not fields to their end.
-pub fn last_field(bytes: &[u8], tag: u32) -> Field
-    ensures { result ≡ last_field tag bytes.now }
+// wins". None where there is none; the refusal where the bytes are not fields to their end.
+// The tag is a number, since one that no field can have is answered too.
+pub fn last_field(bytes: &[u8], tag: u32) -> Result<Option<Field>, Refusal>
+    ensures { in_numbers result ≡ last_field tag bytes.now }
 {
-    let mut found = Field::End;
+    let mut found = None;
     let mut at = 0;
-    loop {
-        let step = field_at(bytes, at);
-        let field = step.field;
-        let next = step.at;
-        found = later(found, field, tag);
-        if next <= at {
-            break found;
-        }
-        at = next;
+    while let Some(step) = field_at(bytes, at)? {
+        found = later(found, step.field, tag);
+        at = step.at;
     }
+    Ok(found)
 }

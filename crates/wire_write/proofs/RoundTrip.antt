@@ -11,6 +11,7 @@ use lib.ListN.{length, take, drop, length-append}
 use lib.Seq.{drop_at, take-append-add, length-take-le}
 use native.Mathlib.Omega.{arith}
 use borrow.Author.Tests.{le-leb, leb-true}
+use Rattle.std.specs.Prelude.{Some, Ok}
 use Rattle.wire_read.specs.Part.{part}
 use Rattle.wire_read.specs.Varint.{varint}
 use Rattle.wire_read.specs.Tags.{tag}
@@ -18,10 +19,7 @@ use Rattle.wire_read.specs.Fields.{next_field}
 use Rattle.copying.specs.Stored.{fits, stored}
 use Rattle.wire_write.specs.Writing.{put_varint, put_tag, put_bytes, good_tag, written_at, tag_stored, tag_written}
 use Rattle.wire_read.specs.Placed.{varint_at, tag_at, field_at}
-use Rattle.wire_read.specs.declared.Varint.TheVariants as varints
-use Rattle.wire_read.specs.declared.Tag.TheVariants as tags
 use Rattle.wire_read.specs.declared.Field.TheVariants as fields
-use Rattle.wire_write.specs.declared.Written.TheVariants as writes
 use Rattle.wire_write.proofs.Outputs.{accepted}
 use Rattle.wire_write.proofs.ReadBack.{varint_back, good_numbers, tag_back, bytes_field_back}
 
@@ -41,16 +39,16 @@ module _ (out : List ℕ) (at end : ℕ) (x : List ℕ) (room : at + length x �
       (take-append-add x (drop (at + length x) out) (end - (at + length x)))
 
 module _ (out : List ℕ) (at end next : ℕ) (inside : next ≤ end) where
-  pub varint_round_trip : (v : ℕ) → v < 2 ^ 64 → written_at out at (put_varint v) ≡ writes.Next next
-      → varint_at at (varint (part (stored out at (put_varint v)) at end)) ≡ varints.Value v next
+  pub varint_round_trip : (v : ℕ) → v < 2 ^ 64 → written_at out at (put_varint v) ≡ Ok next
+      → varint_at at (varint (part (stored out at (put_varint v)) at end)) ≡ Ok (record { value = v; next = next })
   unfolding written_at varint_at
   varint_round_trip v h e =
       let a = accepted true (fits out at (put_varint v)) (at + length (put_varint v)) next e in
       let room : at + length (put_varint v) ≤ length out = leb-true _ _ a.1 in
       rw (part_stored out at end (put_varint v) room (omega (arith, a.2)), varint_back v (part out (at + length (put_varint v)) end) h, a.2)
 
-  pub tag_round_trip : (n w : ℕ) → tag_written n w out at (put_tag n w) ≡ writes.Next next
-      → tag_at at (tag (part (tag_stored n w out at (put_tag n w)) at end)) ≡ tags.Field n w next
+  pub tag_round_trip : (n w : ℕ) → tag_written n w out at (put_tag n w) ≡ Ok next
+      → tag_at at (tag (part (tag_stored n w out at (put_tag n w)) at end)) ≡ Ok (Some (record { number = n; wire_type = w; next = next }))
   unfolding tag_written tag_stored tag_at
   tag_round_trip n w e =
       let a = accepted (good_tag n w) (fits out at (put_tag n w)) (at + length (put_tag n w)) next e in
@@ -63,9 +61,9 @@ module _ (out : List ℕ) (at end next : ℕ) (inside : next ≤ end) where
         a.2,
       )
 
-  pub bytes_round_trip : (n : ℕ) (x : List ℕ) → length x < 2 ^ 64 → tag_written n 2 out at (put_bytes n x) ≡ writes.Next next
+  pub bytes_round_trip : (n : ℕ) (x : List ℕ) → length x < 2 ^ 64 → tag_written n 2 out at (put_bytes n x) ≡ Ok next
       → (field_at at (next_field (part (tag_stored n 2 out at (put_bytes n x)) at end))
-      ≡ fields.Bytes n (at + (length (put_tag n 2) + length (put_varint (length x)))) (length x))
+      ≡ Ok (Some (fields.Bytes n (at + (length (put_tag n 2) + length (put_varint (length x)))) (length x))))
       × (at + (length (put_tag n 2) + length (put_varint (length x))) + length x ≡ next)
   unfolding tag_written tag_stored field_at
   bytes_round_trip n x short e =

@@ -1,9 +1,7 @@
 -- What is written for a varint, a tag and a field of bytes, and what a writer answers. `fits` and `stored` are of `copying`.
-use Rattle.std.specs.Prelude.{ℕ, zero, suc, ◌+◌, ◌*◌, ◌-◌, ◌/◌, ◌%◌, ◌^◌, Bool, true, cond, ◌&&◌, List, [], ◌∷◌, ◌++◌, length, ltb, ℤ, pos, negsuc}
+use Rattle.std.specs.Prelude.{ℕ, zero, suc, ◌+◌, ◌*◌, ◌-◌, ◌/◌, ◌%◌, ◌^◌, Bool, true, cond, ◌&&◌, List, [], ◌∷◌, ◌++◌, length, ltb, ℤ, pos, negsuc, Result, Ok, Err, ⊤}
 use Rattle.refusals.specs.Numbers.{bad_tag, output_short}
 use Rattle.copying.specs.Stored.{fits, stored}
-use Rattle.wire_write.specs.declared.Written.{Written}
-use Rattle.wire_write.specs.declared.Written.TheVariants as writes
 
 -- the groups of `v`, low group first, in at most `room` bytes. Ten are enough: every number below 2^64 reads back as itself
 -- (`varint_back`, proofs/ReadBack)
@@ -39,21 +37,26 @@ good_tag n w = ltb (n * 8 + w) (2 ^ 32) && (ltb 0 n && ltb w 6)
 abbrev pub first_ground : (good room : Bool) → ℕ
 first_ground good room = cond good (cond room 0 output_short) bad_tag
 
+-- the same as an answer
+abbrev pub found_ground : (error : ℕ) → Result ⊤ ℕ
+found_ground zero = Ok tt
+found_ground (suc error) = Err (suc error)
+
 -- ---- the answer, and the output
 
 -- "For an answer that is an enum, a definition gives this paper's number and values for each of its cases": 0 and the next place, or the
 -- refusal number.
-abbrev pub answer : (error next : ℕ) → Written
-answer zero next = writes.Next next
-answer (suc error) next = writes.Refused (suc error)
+abbrev pub answer : (error next : ℕ) → Result ℕ ℕ
+answer zero next = Ok next
+answer (suc error) next = Err (suc error)
 
 -- the answer: the next place after `x`, written to `out` from place `at`
-unfoldable pub written_at : List ℕ → ℕ → List ℕ → Written
+unfoldable pub written_at : List ℕ → ℕ → List ℕ → Result ℕ ℕ
 written_at out at x = answer (first_ground true (fits out at x)) (at + length x)
 
 -- the same of an `x` that starts with the tag of field `n` and wire type `w`: nothing is written where that is bad
 unfoldable pub tag_stored : (n w : ℕ) → List ℕ → ℕ → List ℕ → List ℕ
 tag_stored n w out at x = cond (good_tag n w) (stored out at x) out
 
-unfoldable pub tag_written : (n w : ℕ) → List ℕ → ℕ → List ℕ → Written
+unfoldable pub tag_written : (n w : ℕ) → List ℕ → ℕ → List ℕ → Result ℕ ℕ
 tag_written n w out at x = answer (first_ground (good_tag n w) (fits out at x)) (at + length x)

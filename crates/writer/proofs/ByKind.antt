@@ -1,55 +1,51 @@
 -- What the fields of each kind need, from what is known of a kind's message
-use Prim.Native.Nat.{ℕ, ◌+◌, ◌%◌, ◌/◌, ◌≤◌, ◌<◌}
+use Prim.Native.Nat.{ℕ, ◌+◌, ◌≤◌, ◌<◌}
 use mathlib.Core.Path.{◌≡◌, ap}
 use mathlib.Core.Bool.{true}
 use mathlib.Core.List.{List}
 use lib.ListN.{length, get_or}
 use native.Mathlib.Omega.{arith}
 use Rattle.schema.specs.Schema.{uint32}
-use Rattle.decoder.specs.Rows.{rows_in}
 use Rattle.schema.specs.Kinds.{schema_of}
 use Rattle.schema.specs.declared.Kind.{Kind}
 use Rattle.schema.specs.declared.Kind.TheVariants as kinds
 use Rattle.writer_checks.specs.Grounds.{spans_within}
-use Rattle.writer.specs.Encoding.{put_number, put_fields}
-use Rattle.writer.specs.Straight.{Lent, RowsIn, NamesIn, SpanIn, MetaIn, request_length, response_length, close_length, init_length}
+use Rattle.writer.specs.Encoding.{put_number}
+use Rattle.writer.specs.Straight.{fours, message_bytes, NamesIn, SpanIn, MetaIn, request_length, response_length, close_length, init_length}
 use Rattle.writer.proofs.Pieces.{request_length_lem, response_length_lem, close_length_lem, init_length_lem, feedback_is}
 use Rattle.writer.proofs.Frames.{request_in, response_in, close_in, init_in}
 
-module _ (kind : Kind) (slots : List ℕ) (count : ℕ) (source numbers : List ℕ) (at room : ℕ) where
+module _ (kind : Kind) (slots : List ℕ) (rows : List (List ℕ)) (source : List ℕ) (at room : ℕ) where
   abbrev Ready : Kind → Type 0
-  Ready k =
-      Lent count numbers × RowsIn count source numbers × (spans_within (length source) (schema_of k) 0 slots ≡ true)
-      × (at + length (put_fields source (rows_in count numbers) (schema_of k) 0 slots) ≤ room)
+  Ready k = (spans_within (length source) (schema_of k) 0 slots ≡ true) × (at + length (message_bytes k slots rows source) ≤ room)
 
   pub ready_request : kind ≡ kinds.Request → Ready kind
-      → RowsIn count source numbers × NamesIn (length source) slots × (at + request_length source (rows_in count numbers) slots ≤ room)
+      → NamesIn (length source) slots × (at + request_length source (fours rows) slots ≤ room)
   ready_request e h =
       let k = rw e at h in
-      (h.1, request_in _ _ k.2, rw (request_length_lem source (rows_in count numbers) slots) at k.3)
+      (request_in _ _ k.0, rw (request_length_lem source (fours rows) slots) at k.1)
 
   pub ready_response : kind ≡ kinds.Response → Ready kind
-      → RowsIn count source numbers × SpanIn (length source) slots 5 × (at + response_length source (rows_in count numbers) slots ≤ room)
+      → SpanIn (length source) slots 5 × (at + response_length source (fours rows) slots ≤ room)
   ready_response e h =
       let k = rw e at h in
-      (h.1, response_in _ _ k.2, rw (response_length_lem source (rows_in count numbers) slots) at k.3)
+      (response_in _ _ k.0, rw (response_length_lem source (fours rows) slots) at k.1)
 
   pub ready_close : kind ≡ kinds.Close → Ready kind
-      → RowsIn count source numbers × SpanIn (length source) slots 2 × (at + close_length source (rows_in count numbers) slots ≤ room)
+      → SpanIn (length source) slots 2 × (at + close_length source (fours rows) slots ≤ room)
   ready_close e h =
       let k = rw e at h in
-      (h.1, close_in _ _ k.2, rw (close_length_lem source (rows_in count numbers) slots) at k.3)
+      (close_in _ _ k.0, rw (close_length_lem source (fours rows) slots) at k.1)
 
   pub ready_init : kind ≡ kinds.Init → Ready kind
-      → Lent count numbers × RowsIn count source numbers × MetaIn (length source) slots × SpanIn (length source) slots 10
-      × (at + init_length source (rows_in count numbers) slots ≤ room)
+      → MetaIn (length source) slots × SpanIn (length source) slots 10
+      × (at + init_length source (fours rows) slots ≤ room)
   ready_init e h =
       let k = rw e at h in
-      let spans = init_in _ _ k.2 in
-      (h.0, h.1, spans.0, spans.1, rw (init_length_lem source (rows_in count numbers) slots) at k.3)
+      let spans = init_in _ _ k.0 in
+      (spans.0, spans.1, rw (init_length_lem source (fours rows) slots) at k.1)
 
-  pub ready_feedback : kind ≡ kinds.Feedback → Ready kind → (8 < 128) × (8 % 8 ≡ 0)
-      × (at + length (put_number uint32 (8 / 8) (get_or slots 0 0)) ≤ room)
+  pub ready_feedback : kind ≡ kinds.Feedback → Ready kind → (1 < 16) × (at + length (put_number uint32 1 (get_or slots 0 0)) ≤ room)
   ready_feedback e h =
       let k = rw e at h in
-      (omega arith, omega arith, omega (arith, k.3, ap length (feedback_is source (rows_in count numbers) slots)))
+      (omega arith, omega (arith, k.1, ap length (feedback_is source (fours rows) slots)))

@@ -13,14 +13,13 @@ use Rattle.fixed_header.specs.Put.{fixed_header, header_put}
 use Rattle.fixed_header.specs.declared.FixedHeader.{FixedHeader}
 use Rattle.fixed_header.specs.declared.FrameType.{FrameType}
 use Rattle.fixed_header.proofs.RoundTrip.{sixteen_bytes}
-use Rattle.decoder.specs.Rows.{rows_in}
 use Rattle.schema.specs.Schema.{request, response, close, init, width}
 use Rattle.schema.specs.Kinds.{schema_of}
 use Rattle.schema.specs.declared.Kind.{Kind}
 use Rattle.schema.specs.declared.Kind.TheVariants as kinds
-use Rattle.writer_checks.specs.Grounds.{spans_within}
+use Rattle.writer_checks.specs.Grounds.{spans_within, rows_within}
 use Rattle.writer.specs.Writing.{frame_type_of, header_size_of, header_for, size_error}
-use Rattle.writer.specs.Straight.{Did, RowsIn, NamesIn, SpanIn, MetaIn, size_by, small_tags, message_in, frame_with}
+use Rattle.writer.specs.Straight.{Did, NamesIn, SpanIn, MetaIn, fours, size_by, small_tags, message_bytes, frame_with}
 use Rattle.writer.proofs.Refusals.{no_error}
 use Rattle.writer.proofs.Stores.{then}
 use Rattle.writer.proofs.Measures.{sized_by}
@@ -88,19 +87,19 @@ small kinds.Feedback = refl
 small kinds.Close = refl
 
 -- the error of the sizes is that of the message, and where there is none the frame fits
-module _ (kind : Kind) (slots : List ℕ) (count : ℕ) (source numbers : List ℕ) (in_source : RowsIn count source numbers)
+module _ (kind : Kind) (slots : List ℕ) (rows : List (List ℕ)) (source : List ℕ) (in_source : rows_within (length source) (fours rows) ≡ true)
     (within : spans_within (length source) (schema_of kind) 0 slots ≡ true) (body room c : ℕ) {e : ℕ}
-    (is_e : e ≡ size_error c (16 + size_by (rows_in count numbers) (schema_of kind) 0 slots + body) room) where
-  pub of_message : e ≡ size_error c (16 + length (message_in kind slots count source numbers) + body) room
+    (is_e : e ≡ size_error c (16 + size_by (fours rows) (schema_of kind) 0 slots + body) room) where
+  pub of_message : e ≡ size_error c (16 + length (message_bytes kind slots rows source) + body) room
   of_message =
       is_e ∙ ap (λ (size : ℕ). size_error c (16 + size + body) room)
-      (sym (sized_by source (rows_in count numbers) slots in_source.within (schema_of kind) 0 (small kind) within))
+      (sym (sized_by source (fours rows) slots in_source (schema_of kind) 0 (small kind) within))
 
   pub ready : c ≤ max_frame → e ≡ 0
-      → (16 + length (message_in kind slots count source numbers) + body ≤ max_frame)
-      × (16 + length (message_in kind slots count source numbers) + body ≤ room)
+      → (16 + length (message_bytes kind slots rows source) + body ≤ max_frame)
+      × (16 + length (message_bytes kind slots rows source) + body ≤ room)
   ready small h =
-      let fits = no_error c (16 + length (message_in kind slots count source numbers) + body) room (sym of_message ∙ h) in
+      let fits = no_error c (16 + length (message_bytes kind slots rows source) + body) room (sym of_message ∙ h) in
       (omega (arith, fits), fits.1)
 
 -- the byte fields of each kind

@@ -1,42 +1,24 @@
 -- The sizes are the lengths: one law for every schema.
-use Prim.Native.Nat.{ℕ, suc, ◌+◌, ◌≤◌, ◌<◌}
+use Prim.Native.Nat.{ℕ, ◌+◌, ◌≤◌, ◌<◌}
 use mathlib.Core.Path.{◌≡◌, refl, ap, ◌∙◌}
 use mathlib.Core.Bool.{Bool, true, false, cond, ◌&&◌}
 use mathlib.Core.List.{List, [], ◌∷◌, ◌++◌}
-use lib.ListN.{length, drop, get_or, length-append, drop_of_length-le}
+use lib.ListN.{length, get_or, length-append}
 use lib.Dec.{eqb, ltb, leb}
 use native.Mathlib.Omega.{arith}
-use native.Mathlib.Numerals.{add-one}
 use borrow.Author.Tests.{eq-eqb, ne_eqb, leb-true, ltb-true}
 use Rattle.laws.proofs.Booleans.{both}
 use Rattle.wire_write.specs.Writing.{put_varint, put_tag, put_bytes}
-use Rattle.schema.specs.Schema.{Integer, uint32, int32, request_meta, response_meta, init, Schema, done, number, bytes, map, message, width}
-use Rattle.decoder.specs.Rows.{Row, rows_in}
-use Rattle.decoder.proofs.RowLaws.{length_rows_in, row_at}
+use Rattle.schema.specs.Schema.{Integer, request_meta, response_meta, init, Schema, done, number, bytes, map, message, width}
+use Rattle.decoder.specs.Rows.{Row}
 use Rattle.decoder.specs.Fields.{part_of}
 use Rattle.writer_checks.specs.Grounds.{spans_within, rows_within}
 use Rattle.writer.specs.Encoding.{wide, put_number, put_some, put_entry, put_rows, put_fields}
-use Rattle.writer.specs.Straight.{RowIn, put_part, row_at as row_in}
+use Rattle.writer.specs.Straight.{RowIn, put_part}
 use Rattle.writer.specs.Straight.{tagged, number_size, size_if, rows_sum, row_size, size_by, small_tags, stream_size}
 use Rattle.writer.proofs.Pieces.{part_length, tag_one, bytes_length, some_length, entry_length}
 
 -- ---- one field
-module _ (type : Integer) (v : ℕ) where
-  pub number_none : v ≡ 0 → 0 ≡ number_size type v
-  unfolding number_size
-  number_none e = rw (eq-eqb v 0 e)
-
-  pub number_some : (v ≡ 0 → ⊥) → 1 + length (put_varint (wide type v)) ≡ number_size type v
-  unfolding number_size
-  number_some k = rw (ne_eqb v 0 k)
-
-pub unsigned_some : (v : ℕ) → (v ≡ 0 → ⊥) → 1 + length (put_varint v) ≡ number_size uint32 v
-unfolding wide
-unsigned_some v k = number_some uint32 v k
-
-pub signed_some : (v : ℕ) → (v ≡ 0 → ⊥) → (w : ℕ) → w ≡ wide int32 v → 1 + length (put_varint w) ≡ number_size int32 v
-signed_some v k w e = ap (λ (x : ℕ). 1 + length (put_varint x)) e ∙ number_some int32 v k
-
 module _ (mark size : ℕ) where
   pub size_none : mark ≡ 0 → 0 ≡ size_if mark size
   unfolding size_if
@@ -65,7 +47,7 @@ unfolding size_if
 part_sized n mark x size h e = some_length n h (eqb mark 0) x ∙ rw e
 
 -- the first row and the others
-row_and : (size : ℕ) (row : Row) (rows : List Row) → rows_within size (row ∷ rows) ≡ true → RowIn size row × (rows_within size rows ≡ true)
+pub row_and : (size : ℕ) (row : Row) (rows : List Row) → rows_within size (row ∷ rows) ≡ true → RowIn size row × (rows_within size rows ≡ true)
 unfolding rows_within
 row_and size row rows e =
     let a = both _ _ e in
@@ -116,26 +98,6 @@ module _ (source : List ℕ) (rows : List Row) (slots : List ℕ) (in_source : r
       let here = part_sized n mark x (size_by rows inner (i + 1) slots) (ltb-true n 15 small.0) inside in
       let rest = sized_by more (i + 1 + width inner) smalls.1 spans.1 in
       length-append (put_part n mark x) (put_fields source rows more (i + 1 + width inner) slots) ∙ rw (here, rest)
-
--- ---- a loop that sums over the rows: what is done, and the rows that are left
-module _ (f : Row → ℕ) (count : ℕ) (numbers : List ℕ) (i size : ℕ)
-    (left : size + rows_sum f (drop i (rows_in count numbers)) ≡ rows_sum f (rows_in count numbers)) where
-  pub sum_more : i < count → (row : Row) → row ≡ row_in numbers i → (r : ℕ) → r ≡ f row
-      → size + r + rows_sum f (drop (i + 1) (rows_in count numbers)) ≡ rows_sum f (rows_in count numbers)
-  unfolding rows_sum
-  sum_more h row is_row r is_r =
-      let here : rows_sum f (drop i (rows_in count numbers)) ≡ f (row_in numbers i) + rows_sum f (drop (suc i) (rows_in count numbers)) = ap
-      (rows_sum f)
-      (row_at count numbers i h) in
-      let g : r ≡ f (row_in numbers i) = is_r ∙ ap f is_row in
-      rw (add-one i) (omega (arith, here, left, g))
-
-  pub sum_all : count ≤ i → size ≡ rows_sum f (rows_in count numbers)
-  unfolding rows_sum
-  sum_all h =
-      let none : drop i (rows_in count numbers) ≡ [] = drop_of_length-le (rows_in count numbers) {i = i}
-      (omega (arith, length_rows_in count numbers)) in
-      omega (arith, ap (rows_sum f) none, left)
 
 -- ---- an Init
 module _ (rows : List Row) (slots : List ℕ) where

@@ -8,9 +8,9 @@ use native.Mathlib.Omega.{arith}
 use borrow.Author.Tests.{ne_eqb, le-leb}
 use Rattle.wire_write.specs.Writing.{put_varint}
 use Rattle.schema.specs.Schema.{request_meta, response_meta}
-use Rattle.decoder.specs.Rows.{rows_in}
-use Rattle.writer_checks.specs.Grounds.{spans_within}
-use Rattle.writer.specs.Straight.{RowsIn, request_meta_length, response_meta_length}
+use Rattle.decoder.specs.Rows.{Row}
+use Rattle.writer_checks.specs.Grounds.{spans_within, rows_within}
+use Rattle.writer.specs.Straight.{request_meta_length, response_meta_length}
 use Rattle.writer.specs.Straight.{MetaIn, SpanIn, size_by, small_tags, put_request_part, put_response_part, request_meta_bytes, response_meta_bytes}
 use Rattle.writer.proofs.Pieces.{bytes_are, request_meta_length_lem, response_meta_length_lem}
 use Rattle.writer.proofs.Measures.{sized_by}
@@ -28,47 +28,47 @@ small : (small_tags request_meta ≡ true) × (small_tags response_meta ≡ true
 unfolding small_tags
 small = (refl, refl)
 
-module _ (slots : List ℕ) (count : ℕ) (source numbers : List ℕ) (in_source : RowsIn count source numbers) where
+module _ (slots : List ℕ) (rows : List Row) (source : List ℕ) (in_source : rows_within (length source) rows ≡ true) where
   pub request_whole : MetaIn (length source) slots → (get_or slots 0 0 ≡ 0 → ⊥) → (size : ℕ) → size
-      ≡ size_by (rows_in count numbers) request_meta 1 slots
-      → put_request_part source (rows_in count numbers) slots ≡ (10 ∷ put_varint size) ++ request_meta_bytes source (rows_in count numbers) slots
+      ≡ size_by rows request_meta 1 slots
+      → put_request_part source rows slots ≡ (10 ∷ put_varint size) ++ request_meta_bytes source rows slots
   request_whole spans present size is_size =
-      let same : size ≡ length (request_meta_bytes source (rows_in count numbers) slots) = is_size
-      ∙ sym (sized_by source (rows_in count numbers) slots in_source.within request_meta 1 small.0
+      let same : size ≡ length (request_meta_bytes source rows slots) = is_size
+      ∙ sym (sized_by source rows slots in_source request_meta 1 small.0
       (request_within (length source) slots spans)) in
-      rw (ne_eqb (get_or slots 0 0) 0 present, same) (bytes_are 10 (omega arith) (omega arith)
-      (request_meta_bytes source (rows_in count numbers) slots))
+      rw (ne_eqb (get_or slots 0 0) 0 present, same) (bytes_are 1 (omega arith)
+      (request_meta_bytes source rows slots))
 
   pub response_whole : SpanIn (length source) slots 10 → (get_or slots 8 0 ≡ 0 → ⊥) → (size : ℕ) → size
-      ≡ size_by (rows_in count numbers) response_meta 9 slots
-      → put_response_part source (rows_in count numbers) slots ≡ (18 ∷ put_varint size) ++ response_meta_bytes source (rows_in count numbers) slots
+      ≡ size_by rows response_meta 9 slots
+      → put_response_part source rows slots ≡ (18 ∷ put_varint size) ++ response_meta_bytes source rows slots
   response_whole span present size is_size =
-      let same : size ≡ length (response_meta_bytes source (rows_in count numbers) slots) = is_size
-      ∙ sym (sized_by source (rows_in count numbers) slots in_source.within response_meta 9 small.1
+      let same : size ≡ length (response_meta_bytes source rows slots) = is_size
+      ∙ sym (sized_by source rows slots in_source response_meta 9 small.1
       (response_within (length source) slots span)) in
-      rw (ne_eqb (get_or slots 8 0) 0 present, same) (bytes_are 18 (omega arith) (omega arith)
-      (response_meta_bytes source (rows_in count numbers) slots))
+      rw (ne_eqb (get_or slots 8 0) 0 present, same) (bytes_are 2 (omega arith)
+      (response_meta_bytes source rows slots))
 
   -- how long that is
   pub request_room : MetaIn (length source) slots → (get_or slots 0 0 ≡ 0 → ⊥) → (size : ℕ) → size
-      ≡ size_by (rows_in count numbers) request_meta 1 slots
-      → length (put_request_part source (rows_in count numbers) slots)
-      ≡ 1 + length (put_varint size) + request_meta_length source (rows_in count numbers) slots
+      ≡ size_by rows request_meta 1 slots
+      → length (put_request_part source rows slots)
+      ≡ 1 + length (put_varint size) + request_meta_length source rows slots
   request_room spans present size is_size =
       omega (
         arith,
         ap length (request_whole spans present size is_size),
-        length-append (10 ∷ put_varint size) (request_meta_bytes source (rows_in count numbers) slots),
-        request_meta_length_lem source (rows_in count numbers) slots,
+        length-append (10 ∷ put_varint size) (request_meta_bytes source rows slots),
+        request_meta_length_lem source rows slots,
       )
 
   pub response_room : SpanIn (length source) slots 10 → (get_or slots 8 0 ≡ 0 → ⊥) → (size : ℕ) → size
-      ≡ size_by (rows_in count numbers) response_meta 9 slots
-      → length (put_response_part source (rows_in count numbers) slots) ≡ 1 + length (put_varint size) + response_meta_length source slots
+      ≡ size_by rows response_meta 9 slots
+      → length (put_response_part source rows slots) ≡ 1 + length (put_varint size) + response_meta_length source slots
   response_room span present size is_size =
       omega (
         arith,
         ap length (response_whole span present size is_size),
-        length-append (18 ∷ put_varint size) (response_meta_bytes source (rows_in count numbers) slots),
-        response_meta_length_lem source (rows_in count numbers) slots,
+        length-append (18 ∷ put_varint size) (response_meta_bytes source rows slots),
+        response_meta_length_lem source rows slots,
       )

@@ -1,14 +1,15 @@
 -- What is written of one field, with a tag of one byte, and how long it is; then each kind's message in its parts
-use Prim.Native.Nat.{ℕ, ◌+◌, ◌*◌, ◌/◌, ◌%◌, ◌≤◌, ◌<◌}
+use Prim.Native.Nat.{ℕ, ◌+◌, ◌*◌, ◌≤◌, ◌<◌}
 use mathlib.Core.Path.{◌≡◌, refl, sym, ap, ◌∙◌}
 use mathlib.Core.Bool.{Bool, true, false, cond}
 use mathlib.Core.List.{List, [], ◌∷◌, ◌++◌, append_assoc, append-nil}
 use lib.ListN.{length, drop, length-append, length-take, length-drop}
 use native.Mathlib.Omega.{arith}
-use borrow.Author.Tests.{eq-eqb, ne_eqb}
+use lib.Dec.{eqb}
+use borrow.Author.Tests.{ne_eqb}
 use Rattle.wire_write.specs.Writing.{put_varint, put_tag, put_bytes}
 use Rattle.wire_write.proofs.Encoding.{shortest_last}
-use Rattle.schema.specs.Schema.{Integer, uint32, request, response, close, feedback, init, width}
+use Rattle.schema.specs.Schema.{Integer, request, response, close, feedback, init, width}
 use Rattle.decoder.specs.Fields.{part_of}
 use Rattle.decoder.specs.Rows.{Row}
 use Rattle.writer.specs.Encoding.{wide, put_number, put_some, put_entry, put_rows, put_fields}
@@ -20,15 +21,6 @@ pub part_length : (source : List ℕ) (at size : ℕ) → at + size ≤ length s
 part_length source at size h = omega (arith, length-take size (drop at source), length-drop at source)
 
 -- ---- "zero and empty ones left out": a field is left out, or written whole
-module _ (type : Integer) (n v : ℕ) where
-  pub number_out : v ≡ 0 → put_number type n v ≡ []
-  unfolding put_number
-  number_out e = rw (eq-eqb v 0 e)
-
-  number_in : (v ≡ 0 → ⊥) → put_number type n v ≡ put_tag n 0 ++ put_varint (wide type v)
-  unfolding put_number
-  number_in h = rw (ne_eqb v 0 h)
-
 module _ (n : ℕ) (source : List ℕ) (at size : ℕ) where
   pub some_out : size ≡ 0 → put_some n (part_of source at size) ≡ []
   unfolding put_some
@@ -42,11 +34,6 @@ module _ (n : ℕ) (source : List ℕ) (at size : ℕ) where
 pub tag_one : (n w : ℕ) → n * 8 + w < 128 → put_tag n w ≡ (n * 8 + w) ∷ []
 unfolding put_varint
 tag_one n w h = shortest_last 9 (n * 8 + w) h
-
-tag_byte : (tag w : ℕ) → tag < 128 → tag % 8 ≡ w → put_tag (tag / 8) w ≡ tag ∷ []
-tag_byte tag w h e =
-    let same : tag / 8 * 8 + w ≡ tag = omega arith in
-    tag_one (tag / 8) w (omega arith) ∙ rw same
 
 -- a field of bytes
 pub bytes_length : (n : ℕ) → n < 15 → (x : List ℕ) → length (put_bytes n x) ≡ tagged (length x)
@@ -72,46 +59,47 @@ entry_length source row h =
       part_length source row.value row.value_size h.1,
     )
 
-module _ (tag : ℕ) (h : tag < 128) where
-  pub number_as : (type : Integer) → tag % 8 ≡ 0 → (v : ℕ) → (v ≡ 0 → ⊥) → put_number type (tag / 8) v ≡ tag ∷ put_varint (wide type v)
-  number_as type e v k = number_in type (tag / 8) v k ∙ ap (λ (t : List ℕ). t ++ put_varint (wide type v)) (tag_byte tag 0 h e)
+-- a number is left out where what it is written as is 0
+module _ (n : ℕ) (h : n < 16) where
+  pub number_as : (type : Integer) (v w : ℕ) → w ≡ wide type v → eqb w 0 ≡ eqb v 0
+      → cond (eqb w 0) [] (n * 8 ∷ put_varint w) ≡ put_number type n v
+  unfolding put_number
+  number_as type v w e z =
+      let plain : n * 8 + 0 ≡ n * 8 = omega arith in
+      let tag : put_tag n 0 ≡ n * 8 ∷ [] = tag_one n 0 (omega arith) ∙ rw plain in
+      rw (z, tag, ← e)
 
-  pub number_is : tag % 8 ≡ 0 → (v : ℕ) → (v ≡ 0 → ⊥) → put_number uint32 (tag / 8) v ≡ tag ∷ put_varint v
-  unfolding wide
-  number_is e v k = number_as uint32 e v k
+  pub bytes_are : (x : List ℕ) → put_bytes n x ≡ ((n * 8 + 2) ∷ put_varint (length x)) ++ x
+  bytes_are x = ap (λ (t : List ℕ). t ++ put_varint (length x) ++ x) (tag_one n 2 (omega arith))
 
-  module _ (e : tag % 8 ≡ 2) where
-    pub bytes_are : (x : List ℕ) → put_bytes (tag / 8) x ≡ (tag ∷ put_varint (length x)) ++ x
-    bytes_are x = ap (λ (t : List ℕ). t ++ put_varint (length x) ++ x) (tag_byte tag 2 h e)
+  -- a part of the source
+  module _ (source : List ℕ) (start size : ℕ) (k : start + size ≤ length source) where
+    pub span_is : put_bytes n (part_of source start size) ≡ ((n * 8 + 2) ∷ put_varint size) ++ part_of source start size
+    span_is = bytes_are (part_of source start size) ∙ rw (part_length source start size k)
 
-    -- a part of the source
-    module _ (source : List ℕ) (start size : ℕ) (k : start + size ≤ length source) where
-      pub span_is : put_bytes (tag / 8) (part_of source start size) ≡ (tag ∷ put_varint size) ++ part_of source start size
-      span_is = bytes_are (part_of source start size) ∙ rw (part_length source start size k)
+    pub span_length : length (put_bytes n (part_of source start size)) ≡ tagged size
+    span_length =
+        omega (arith, ap length span_is, length-append ((n * 8 + 2) ∷ put_varint size) (part_of source start size), part_length source start size k)
 
-      pub span_length : length (put_bytes (tag / 8) (part_of source start size)) ≡ tagged size
-      span_length =
-          omega (arith, ap length span_is, length-append (tag ∷ put_varint size) (part_of source start size), part_length source start size k)
+  -- a row
+  module _ (source : List ℕ) (row : Row) (k : RowIn (length source) row) (size : ℕ)
+      (is_size : size ≡ tagged row.key_size + tagged row.value_size) where
+    pub entry_is : put_bytes n (put_entry source row)
+        ≡ ((n * 8 + 2) ∷ put_varint size)
+        ++ (put_bytes 1 (part_of source row.key row.key_size) ++ put_bytes 2 (part_of source row.value row.value_size))
+    unfolding put_entry
+    entry_is =
+        let same : length (put_entry source row) ≡ size = entry_length source row k ∙ sym is_size in
+        bytes_are (put_entry source row) ∙ rw same
 
-    -- a row
-    module _ (source : List ℕ) (row : Row) (k : RowIn (length source) row) (size : ℕ)
-        (is_size : size ≡ tagged row.key_size + tagged row.value_size) where
-      pub entry_is : put_bytes (tag / 8) (put_entry source row)
-          ≡ (tag ∷ put_varint size)
-          ++ (put_bytes 1 (part_of source row.key row.key_size) ++ put_bytes 2 (part_of source row.value row.value_size))
-      unfolding put_entry
-      entry_is =
-          let same : length (put_entry source row) ≡ size = entry_length source row k ∙ sym is_size in
-          bytes_are (put_entry source row) ∙ rw same
-
-      pub entry_room : length (put_bytes (tag / 8) (put_entry source row))
-          ≡ 1 + length (put_varint size)
-          + (length (put_bytes 1 (part_of source row.key row.key_size)) + length
-          (put_bytes 2 (part_of source row.value row.value_size)))
-      entry_room =
-          let key = put_bytes 1 (part_of source row.key row.key_size) in
-          let value = put_bytes 2 (part_of source row.value row.value_size) in
-          omega (arith, ap length entry_is, length-append (tag ∷ put_varint size) (key ++ value), length-append key value)
+    pub entry_room : length (put_bytes n (put_entry source row))
+        ≡ 1 + length (put_varint size)
+        + (length (put_bytes 1 (part_of source row.key row.key_size)) + length
+        (put_bytes 2 (part_of source row.value row.value_size)))
+    entry_room =
+        let key = put_bytes 1 (part_of source row.key row.key_size) in
+        let value = put_bytes 2 (part_of source row.value row.value_size) in
+        omega (arith, ap length entry_is, length-append ((n * 8 + 2) ∷ put_varint size) (key ++ value), length-append key value)
 
 -- each kind in its parts
 module _ (source : List ℕ) (rows : List Row) (slots : List ℕ) where

@@ -19,7 +19,7 @@ use Rattle.records.specs.Content.{kind_of, record_id, record_version, row_count,
 use Rattle.writer_checks.specs.Grounds.{content_error}
 use Rattle.writer.specs.Writing.{header_for, frame_of, size_error, write_error, Writing, refused_with, written}
 use Rattle.writer.specs.Straight.{Did, message_in, frame_with, written_with, written_of}
-use Rattle.writer.specs.declared.Encoded.TheVariants.{Frame, Refused}
+use Rattle.std.proofs.Common.{Ok, Err}
 
 frame_length : (kind : Kind) (id version : ℕ) (m body : List ℕ) → length (frame_with kind id version m body) ≡ 16 + length m + length body
 frame_length kind id version m body =
@@ -70,11 +70,11 @@ module _ (c : ℕ) where
   module _ (kind : Kind) (id version : ℕ) (m body output : List ℕ) (e : ℕ)
       (is_e : e ≡ size_error c (16 + length m + length body) (length output)) where
     pub refused_size : (e ≡ 0 → ⊥)
-        → (Refused e ≡ (written_with c kind id version m body output).answer) × (output ≡ (written_with c kind id version m body output).output)
+        → (Err e ≡ (written_with c kind id version m body output).answer) × (output ≡ (written_with c kind id version m body output).output)
     refused_size h = (rw (← is_e, ne_eqb e 0 h), rw (← is_e, ne_eqb e 0 h))
 
     pub framed : e ≡ 0 → {r : ℕ} {after : List ℕ} → Did (frame_with kind id version m body) output 0 r after
-        → (Frame r ≡ (written_with c kind id version m body output).answer) × (after ≡ (written_with c kind id version m body output).output)
+        → (Ok r ≡ (written_with c kind id version m body output).answer) × (after ≡ (written_with c kind id version m body output).output)
     framed h {r} {after} p =
         let none : size_error c (16 + length m + length body) (length output) ≡ 0 = sym is_e ∙ h in
         let fits = no_error (16 + length m + length body) (length output) none in
@@ -85,13 +85,13 @@ module _ (c : ℕ) where
   module _ (kind : Kind) (id version : ℕ) (slots : List ℕ) (count : ℕ) (source numbers body output : List ℕ)
       {ok : Bool} (is_ok : ok ≡ ceiling_ok c) where
     pub refused_ceiling : not ok ≡ true
-        → (Refused 41 ≡ (written_of c kind id version slots count source numbers body output).answer)
+        → (Err 41 ≡ (written_of c kind id version slots count source numbers body output).answer)
         × (output ≡ (written_of c kind id version slots count source numbers body output).output)
     refused_ceiling h = (rw (fails is_ok h), rw (fails is_ok h))
 
     module _ (left : not ok ≡ false) (e : ℕ) (is_e : e ≡ content_error kind slots count source numbers (length body)) where
       pub refused_content : (e ≡ 0 → ⊥)
-          → (Refused e ≡ (written_of c kind id version slots count source numbers body output).answer)
+          → (Err e ≡ (written_of c kind id version slots count source numbers body output).answer)
           × (output ≡ (written_of c kind id version slots count source numbers body output).output)
       refused_content h = (rw (holds is_ok left, ← is_e, ne_eqb e 0 h), rw (holds is_ok left, ← is_e, ne_eqb e 0 h))
 

@@ -23,7 +23,7 @@ use Rattle.records.specs.declared.Record.{Record}
 use Rattle.records.specs.Content.{kind_of, row_count, slots_of}
 use Rattle.writer_checks.specs.Grounds.{content_error}
 use Rattle.writer.specs.Writing.{frame_of, size_error, write_error, Writing, refused_with, written}
-use Rattle.writer.specs.declared.Encoded.TheVariants.{Frame}
+use Rattle.std.proofs.Common.{Ok}
 use Rattle.writer.proofs.Refusals.{no_error}
 
 -- a code of 0, and what later ones say
@@ -35,11 +35,11 @@ no_code code later e = by (eqb code 0) refl e
     by false z e = absurd (eqb-false code 0 z e)
 
 -- an answer with a frame has no error
-no_refusal : (error size : ℕ) (good : Writing) (output : List ℕ) → (cond (eqb error 0) good (refused_with error output)).answer ≡ Frame size
+no_refusal : (error size : ℕ) (good : Writing) (output : List ℕ) → (cond (eqb error 0) good (refused_with error output)).answer ≡ Ok size
     → error ≡ 0
 no_refusal error size good output = by (eqb error 0) refl
   where
-    by : (b : Bool) → eqb error 0 ≡ b → (cond b good (refused_with error output)).answer ≡ Frame size → error ≡ 0
+    by : (b : Bool) → eqb error 0 ≡ b → (cond b good (refused_with error output)).answer ≡ Ok size → error ≡ 0
     by true e a = eqb-true error 0 e
     by false e a = clash cc
 
@@ -64,7 +64,7 @@ module _ (c : ℕ) (r : Record) (source numbers body : List ℕ) where
       let none = accepted_parts room e in
       (ceiling_range c none.0, (no_error c (length (frame_of r source numbers body)) room none.1.1).0)
 
-  pub written_within : (output : List ℕ) (size : ℕ) → (written c r source numbers body output).answer ≡ Frame size
+  pub written_within : (output : List ℕ) (size : ℕ) → (written c r source numbers body output).answer ≡ Ok size
       → CeilingOk c × (length (frame_of r source numbers body) ≤ c)
   written_within output size e =
       accepted_within (length output) (no_refusal (write_error c r source numbers body (length output)) size _ output e)
@@ -83,7 +83,7 @@ module _ (c : ℕ) (in_range : CeilingOk c) (r : Record) (source numbers body : 
   written_under output within = rw (error_under (length output) within)
 
 pub written_larger : (c d : ℕ) → c ≤ d → d ≤ max_frame → (r : Record) (source numbers body output : List ℕ) (size : ℕ)
-    → (written c r source numbers body output).answer ≡ Frame size
+    → (written c r source numbers body output).answer ≡ Ok size
     → written d r source numbers body output ≡ written c r source numbers body output
 written_larger c d more most r source numbers body output size e =
     let w = written_within c r source numbers body output size e in

@@ -1,5 +1,5 @@
 -- What the writer's private functions promise each other. No sentence of the paper is here.
-use Rattle.std.specs.Prelude.{ℕ, ◌+◌, ◌*◌, ◌≤◌, ◌≡◌, List, [], ◌∷◌, ◌++◌, Bool, true, not, cond, ◌&&◌, eqb, ltb, length, get_or}
+use Rattle.std.specs.Prelude.{ℕ, ◌+◌, ◌≤◌, ◌≡◌, List, map as each, [], ◌∷◌, ◌++◌, Bool, true, not, cond, ◌&&◌, eqb, ltb, length, get_or}
 use Rattle.std.proofs.lemmas.List.Edits.{sets}
 use Rattle.fixed_header.specs.Header.{ceiling_ok}
 use Rattle.fixed_header.specs.Put.{fixed_header}
@@ -9,37 +9,18 @@ use Rattle.schema.specs.Kinds.{schema_of}
 use Rattle.schema.specs.declared.Kind.{Kind}
 use Rattle.decoder.specs.Rows.{Row, rows_in}
 use Rattle.decoder.specs.Fields.{part_of}
-use Rattle.writer_checks.specs.Grounds.{rows_within, content_error}
+use Rattle.writer_checks.specs.Grounds.{content_error}
+use Rattle.writer_checks.specs.Fours.{row_of}
 use Rattle.writer.specs.Encoding.{wide, put_number, put_some, put_rows, put_fields}
 use Rattle.writer.specs.Writing.{header_for, size_error, Writing, refused_with, wrote}
-use Rattle.writer.specs.declared.entry.MapEntry.{MapEntry}
 
--- ---- the rows, one at a time
-abbrev pub row_of : MapEntry → Row
-row_of e = record { key = e.key; key_size = e.key_size; value = e.value; value_size = e.value_size }
+-- ---- the rows, four numbers each
+abbrev pub fours : List (List ℕ) → List Row
+fours rows = each row_of rows
 
-abbrev pub row_at : (numbers : List ℕ) → (i : ℕ) → Row
-row_at numbers i =
-    record {
-      key = get_or numbers (i * 4) 0;
-      key_size = get_or numbers (i * 4 + 1) 0;
-      value = get_or numbers (i * 4 + 2) 0;
-      value_size = get_or numbers (i * 4 + 3) 0;
-    }
-
--- its key and its value lie within `size` bytes
+-- a row's key and its value lie within `size` bytes
 abbrev pub RowIn : (size : ℕ) → Row → Type 0
 RowIn size row = (row.key + row.key_size ≤ size) × (row.value + row.value_size ≤ size)
-
--- the rows are lent, and few enough that no size overflows
-pub record Lent (count : ℕ) (numbers : List ℕ) : Type 0 where
-  pub few : count ≤ 64
-  pub lent : count * 4 ≤ length numbers
-
--- they lie within the source
-pub record RowsIn (count : ℕ) (source numbers : List ℕ) : Type 0 where
-  pub lent : count * 4 ≤ length numbers
-  pub within : rows_within (length source) (rows_in count numbers) ≡ true
 
 -- ---- what is written
 -- `x` was stored in `out` from place `at`, and the output is then `after`, its next place `next`
@@ -239,6 +220,10 @@ content_size slots = unsigned_size slots 8 + unsigned_size slots 9 + unsigned_si
 
 abbrev pub stream_size : (slots : List ℕ) → ℕ
 stream_size slots = unsigned_size slots 12 + unsigned_size slots 13 + unsigned_size slots 14
+
+-- ---- the message of slots and rows as the code has them
+abbrev pub message_bytes : Kind → (slots : List ℕ) → (rows : List (List ℕ)) → (source : List ℕ) → List ℕ
+message_bytes kind slots rows source = put_fields source (fours rows) (schema_of kind) 0 slots
 
 -- ---- the frame of a kind, an id, a version, slots and a row count
 abbrev pub message_in : Kind → (slots : List ℕ) → (count : ℕ) → (source numbers : List ℕ) → List ℕ

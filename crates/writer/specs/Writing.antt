@@ -1,5 +1,5 @@
 -- Writing a frame: the refusal or the bytes, and the output afterwards
-use Rattle.std.specs.Prelude.{ℕ, ◌+◌, cond, List, ◌++◌, length, drop, leb, eqb}
+use Rattle.std.specs.Prelude.{ℕ, ◌+◌, cond, List, ◌++◌, length, drop, leb, eqb, Result, Ok, Err}
 use Rattle.laws.specs.Chains.{unless}
 use Rattle.fixed_header.specs.Header.{ceiling_ok}
 use Rattle.fixed_header.specs.Put.{fixed_header}
@@ -14,8 +14,6 @@ use Rattle.records.specs.declared.Record.{Record}
 use Rattle.records.specs.Content.{kind_of, record_id, record_version, row_count, slots_of}
 use Rattle.writer.specs.Encoding.{put_fields}
 use Rattle.writer_checks.specs.Grounds.{content_error}
-use Rattle.writer.specs.declared.Encoded.{Encoded}
-use Rattle.writer.specs.declared.Encoded.TheVariants.{Frame, Refused}
 
 -- ---- "The 16 bytes"
 -- "data type | 0 unary, 1 stream"; "stream type | 1 Init, 2 Data, 3 Feedback, 4 Close"
@@ -78,17 +76,18 @@ write_error c r source numbers body room =
     (size_error c (length (frame_of r source numbers body)) room))
 
 -- ---- writing
+-- how many bytes the frame has, or the refusal's number; and the output afterwards
 pub record Writing : Type 0 where
-  pub answer : Encoded
+  pub answer : Result ℕ ℕ
   pub output : List ℕ
 
 -- "all others leave rows, output and list untouched"
 abbrev pub refused_with : ℕ → List ℕ → Writing
-refused_with code output = record { answer = Refused code; output = output }
+refused_with code output = record { answer = Err code; output = output }
 
 -- "Bytes past the frame stay as they were."
 abbrev pub wrote : List ℕ → List ℕ → Writing
-wrote frame output = record { answer = Frame (length frame); output = frame ++ drop (length frame) output }
+wrote frame output = record { answer = Ok (length frame); output = frame ++ drop (length frame) output }
 
 -- "The writer takes a record, the bytes its starts refer to, its rows and a body." "A number is given exactly when its ground holds and
 -- none before it in the order does; with no ground the entry does its work."
@@ -99,10 +98,10 @@ written c r source numbers body output =
     (refused_with (write_error c r source numbers body (length output)) output)
 
 -- "a refused write counts 0 bytes": what each answer says, as the paper's numbers
-unfoldable pub count_of : Encoded → ℕ
-count_of (Frame size) = size
-count_of (Refused code) = 0
+unfoldable pub count_of : Result ℕ ℕ → ℕ
+count_of (Ok size) = size
+count_of (Err code) = 0
 
-unfoldable pub error_of : Encoded → ℕ
-error_of (Frame size) = 0
-error_of (Refused code) = code
+unfoldable pub error_of : Result ℕ ℕ → ℕ
+error_of (Ok size) = 0
+error_of (Err code) = code

@@ -1,19 +1,18 @@
 // A frame: its message after the room for the 16 bytes, its body, then the 16 bytes with the sizes reached.
-ghost use Rattle.std.specs.Prelude.{◌≡◌, true, ◌+◌, ◌≤◌, length};
+ghost use Rattle.std.specs.Prelude.{◌≡◌, ◌+◌, ◌≤◌, length};
 ghost use Rattle.fixed_header.specs.Header.{max_frame};
-ghost use Rattle.schema.specs.Kinds.{schema_of};
-ghost use Rattle.writer_checks.specs.Grounds.{spans_within};
+ghost use Rattle.refusals.specs.Refusals.{in_numbers};
 ghost use Rattle.writer.specs.Writing.{frame_type_of, header_size_of};
-ghost use Rattle.writer.specs.Straight.{Lent, RowsIn, Did, message_in, frame_with, written_with, written_of};
+ghost use Rattle.writer.specs.Straight.{Did, message_bytes, frame_with, written_with, written_of};
 
-use crate::Encoded;
-use crate::bounds::message_error;
-use crate::fields::put_message;
+use crate::message::Message;
 use fixed_header::{FixedHeader, FrameType, HEADER, ceiling_ok, put_header};
-use refusals::BAD_CEILING;
+use records::Outline;
+use refusals::Refusal;
 use schema::Kind;
 use writer_checks::content_error;
 
+// No From: both types are of other crates.
 fn frame_type(kind: Kind) -> FrameType
     ensures { result ≡ frame_type_of kind }
 {
@@ -44,33 +43,20 @@ fn put_body(body: &[u8], out: &mut [u8], at: usize) -> usize
     requires { at + length body.now ≤ length out.old }
     ensures { Did body.now out.old at result out.new }
 {
-    wire_write::write_raw(body, out, at);
+    let _ = wire_write::write_raw(body, out, at);
     at + body.len()
 }
 
 // The frame, for which there is room; returns its size.
-fn put_frame(
-    kind: Kind,
-    id: u32,
-    version: u8,
-    n: &[u32; 16],
-    count: usize,
-    source: &[u8],
-    rows: &[u32],
-    body: &[u8],
-    out: &mut [u8],
-) -> usize
-    requires { Lent count rows.now × RowsIn count source.now rows.now
-        × (spans_within (length source.now) (schema_of kind) 0 n.now ≡ true)
-        × (16 + length (message_in kind n.now count source.now rows.now) + length body.now ≤ max_frame)
-        × (16 + length (message_in kind n.now count source.now rows.now) + length body.now ≤ length out.old) }
-    ensures { Did
-        (frame_with kind id version (message_in kind n.now count source.now rows.now) body.now)
+fn put_frame(m: &Message, id: u32, version: u8, body: &[u8], out: &mut [u8]) -> usize
+    requires { (16 + length (message_bytes m.now.kind m.now.slots.now m.now.rows.now m.now.source.now) + length body.now ≤ max_frame)
+        × (16 + length (message_bytes m.now.kind m.now.slots.now m.now.rows.now m.now.source.now) + length body.now ≤ length out.old) }
+    ensures { Did (frame_with m.now.kind id version (message_bytes m.now.kind m.now.slots.now m.now.rows.now m.now.source.now) body.now)
         out.old 0 result out.new }
 {
-    let end = put_message(kind, n, count, source, rows, out, HEADER);
+    let end = m.put(out, HEADER);
     let total = put_body(body, out, end);
-    let header_type = frame_type(kind);
+    let header_type = frame_type(m.kind);
     let header = FixedHeader {
         frame_type: header_type,
         total,
@@ -84,68 +70,50 @@ fn put_frame(
 
 // Of slots that have no ground of refusal before 19.
 fn write_frame(
-    kind: Kind,
+    m: &Message,
     id: u32,
     version: u8,
-    n: &[u32; 16],
-    count: usize,
-    source: &[u8],
-    rows: &[u32],
     body: &[u8],
     out: &mut [u8],
     ceiling: u32,
-) -> Encoded
-    requires { Lent count rows.now × RowsIn count source.now rows.now
-        × (spans_within (length source.now) (schema_of kind) 0 n.now ≡ true) × (ceiling ≤ max_frame) }
-    ensures { (result ≡ (written_with ceiling kind id version
-        (message_in kind n.now count source.now rows.now) body.now
+) -> Result<usize, Refusal>
+    requires { ceiling ≤ max_frame }
+    ensures { (in_numbers result ≡ (written_with ceiling m.now.kind id version (message_bytes m.now.kind m.now.slots.now m.now.rows.now m.now.source.now) body.now
         out.old).answer)
-        × (out.new ≡ (written_with ceiling kind id version
-        (message_in kind n.now count source.now rows.now) body.now
+        × (out.new ≡ (written_with ceiling m.now.kind id version (message_bytes m.now.kind m.now.slots.now m.now.rows.now m.now.source.now) body.now
         out.old).output) }
 {
-    let error = message_error(kind, n, count, rows, body.len(), out.len(), ceiling);
-    if error != 0 {
-        return Encoded::Refused(error);
-    }
-    Encoded::Frame(put_frame(kind, id, version, n, count, source, rows, body, out))
+    m.fits(body.len(), out.len(), ceiling)?;
+    Ok(put_frame(m, id, version, body, out))
 }
 
-// The frame of a kind, an id, a version, slots and a row count.
+// The frame of an outline and slots.
+// The arguments of `write` and `write_slots`: a struct of them would be made and taken apart here alone.
 pub(crate) fn write_values(
-    kind: Kind,
-    id: u32,
-    version: u8,
-    n: &[u32; 16],
-    count: u32,
+    outline: Outline,
+    slots: &[u32; 16],
     source: &[u8],
     rows: &[u32],
     body: &[u8],
     out: &mut [u8],
     ceiling: u32,
-) -> Encoded
-    ensures { (result ≡ (written_of ceiling kind id version n.now count source.now rows.now
-        body.now out.old).answer)
-        × (out.new ≡ (written_of ceiling kind id version n.now count source.now rows.now
-        body.now out.old).output) }
+) -> Result<usize, Refusal>
+    ensures { (in_numbers result ≡ (written_of ceiling outline.kind outline.id outline.header_version slots.now outline.rows
+        source.now rows.now body.now out.old).answer)
+        × (out.new ≡ (written_of ceiling outline.kind outline.id outline.header_version slots.now outline.rows
+        source.now rows.now body.now out.old).output) }
 {
     if !ceiling_ok(ceiling) {
-        return Encoded::Refused(BAD_CEILING);
+        return Err(Refusal::BadCeiling);
     }
-    let ground = content_error(kind, n, count, source, rows, body.len());
-    if ground != 0 {
-        return Encoded::Refused(ground);
-    }
-    write_frame(
+    let kind = outline.kind;
+    content_error(kind, slots, outline.rows, source, rows, body.len())?;
+    let (rows, _) = rows[..(outline.rows as usize) * 4].as_chunks::<4>();
+    let m = Message {
         kind,
-        id,
-        version,
-        n,
-        count as usize,
-        source,
+        slots,
         rows,
-        body,
-        out,
-        ceiling,
-    )
+        source,
+    };
+    write_frame(&m, outline.id, outline.header_version, body, out, ceiling)
 }

@@ -1,17 +1,11 @@
 // The grounds that a record's own fields give: 17, 18's last and 15. A field is at its slot in `values`, a byte field at two.
-ghost use Rattle.std.specs.Prelude.{◌≡◌, not, ◌||◌, List, ℕ, ◌+◌, leb, eqb};
-ghost use Rattle.schema.specs.Schema.{request, request_meta, response_meta, init};
+ghost use Rattle.std.specs.Prelude.{◌≡◌, not, ◌&&◌, ◌||◌, List, ℕ, ◌+◌, ◌≤◌, leb, eqb, get_or};
+ghost use Rattle.schema.specs.Schema.{request_meta, response_meta, init};
 ghost use Rattle.schema.specs.Kinds.{schema_of};
 ghost use Rattle.decoder.specs.Rows.{Row, rows_in};
 ghost use Rattle.writer_checks.specs.Grounds.{spans_within, all_zero, absent_ok, body_ok};
 
 use schema::Kind;
-
-pub(crate) fn wide(n: u32) -> usize
-    ensures { result ≡ n }
-{
-    n as usize
-}
 
 // ---- 17
 
@@ -22,23 +16,16 @@ pub(crate) fn span_within(start: u32, len: u32, size: usize) -> bool
     (start as usize) + (len as usize) <= size
 }
 
-#[tactic(auto, unfolding(crate::specs::Grounds::spans_within))]
-fn request_within(values: &[u32; 16], size: usize) -> bool
-    ensures { result ≡ spans_within size request 0 values.now }
+// Caller, callee and func, from this slot on.
+fn names_within(values: &[u32; 16], first: usize, size: usize) -> bool
+    requires { first + 6 ≤ 16 }
+    ensures { result ≡ (leb (get_or values.now first 0 + get_or values.now (first + 1) 0) size
+        && leb (get_or values.now (first + 2) 0 + get_or values.now (first + 3) 0) size
+        && leb (get_or values.now (first + 4) 0 + get_or values.now (first + 5) 0) size) }
 {
-    let caller = span_within(values[4], values[5], size);
-    let callee = span_within(values[6], values[7], size);
-    let func = span_within(values[8], values[9], size);
-    caller & callee & func
-}
-
-#[tactic(auto, unfolding(crate::specs::Grounds::spans_within))]
-fn request_meta_within(values: &[u32; 16], size: usize) -> bool
-    ensures { result ≡ spans_within size request_meta 1 values.now }
-{
-    let caller = span_within(values[1], values[2], size);
-    let callee = span_within(values[3], values[4], size);
-    let func = span_within(values[5], values[6], size);
+    let caller = span_within(values[first], values[first + 1], size);
+    let callee = span_within(values[first + 2], values[first + 3], size);
+    let func = span_within(values[first + 4], values[first + 5], size);
     caller & callee & func
 }
 
@@ -46,7 +33,7 @@ fn request_meta_within(values: &[u32; 16], size: usize) -> bool
 fn init_within(values: &[u32; 16], size: usize) -> bool
     ensures { result ≡ spans_within size init 0 values.now }
 {
-    let request = request_meta_within(values, size);
+    let request = names_within(values, 1, size);
     let error_msg = span_within(values[10], values[11], size);
     request & error_msg
 }
@@ -56,7 +43,7 @@ pub(crate) fn spans_within(kind: Kind, values: &[u32; 16], size: usize) -> bool
     ensures { result ≡ spans_within size (schema_of kind) 0 values.now }
 {
     match kind {
-        Kind::Request => request_within(values, size),
+        Kind::Request => names_within(values, 4, size),
         // error_msg
         Kind::Response => span_within(values[5], values[6], size),
         Kind::Init => init_within(values, size),
@@ -119,14 +106,15 @@ pub(crate) fn absent_ok(kind: Kind, values: &[u32; 16], count: u32) -> bool
 
 // ---- 15
 
+// Not by the attachment size alone, which is 0 of four kinds: three of them have no body, and Data has any.
 #[tactic(auto, unfolding(crate::specs::Grounds::body_ok, records::specs::Records::attachment_size_of))]
 pub(crate) fn body_ok(kind: Kind, values: &[u32; 16], size: usize) -> bool
     ensures { result ≡ body_ok kind values.now size }
 {
     match kind {
         // attachment_size
-        Kind::Request => wide(values[13]) <= size,
-        Kind::Response => wide(values[10]) <= size,
+        Kind::Request => (values[13] as usize) <= size,
+        Kind::Response => (values[10] as usize) <= size,
         Kind::Init => size == 0,
         Kind::Data => true,
         Kind::Feedback => size == 0,

@@ -6,7 +6,6 @@ ghost use Rattle.decoder.specs.Rows.{rows_in};
 ghost use Rattle.writer_checks.specs.Grounds.{keys_differ};
 ghost use Rattle.writer_checks.specs.Marks.{RowsLie, none_after, place_of, MarkedFrom};
 
-use crate::fields::wide;
 use decoder::find_key;
 
 // The place of a key's mark: of its last byte and its length.
@@ -26,58 +25,65 @@ fn key_place(source: &[u8], key: u32, size: u32) -> usize
     place_at(source[(key as usize) + ((size as usize) - 1)], size)
 }
 
-// No row after row i has its key.
-fn no_key(source: &[u8], rows: &[u32], count: usize, i: usize) -> bool
-    requires { (i < count) × (count * 4 ≤ length rows.now) }
-    ensures { result ≡ none_after source.now rows.now count i }
-{
-    let at = i * 4;
-    let key = wide(rows[at]);
-    let key_size = wide(rows[at + 1]);
-    let after = count - (i + 1);
-    find_key(source, &rows[at + 4..], after, key, key_size) == after
+// Rows that are lent, and lie within the source.
+#[derive(Clone, Copy)]
+pub(crate) struct LentRows<'a> {
+    pub source: &'a [u8],
+    pub rows: &'a [u32],
+    pub count: usize,
+    ghost lie: { RowsLie source.now rows.now count },
 }
 
-// The same where the keys after it are marked: one whose place has no mark is none of them. Then its own is marked, too.
-fn mark_key(source: &[u8], rows: &[u32], count: usize, i: usize, seen: &mut [u8; 256]) -> bool
-    requires { RowsLie source.now rows.now count × (i < count) × MarkedFrom source.now rows.now count (i + 1) seen.old }
-    ensures { (result ≡ none_after source.now rows.now count i)
-        × MarkedFrom source.now rows.now count i seen.new }
-{
-    let place = key_place(source, rows[i * 4], rows[i * 4 + 1]);
-    let mark = seen[place];
-    seen[place] = 1;
-    if mark == 0 {
-        return true;
+impl<'a> LentRows<'a> {
+    // No row after row i has its key.
+    fn no_key(&self, i: usize) -> bool
+        requires { i < self.now.count }
+        ensures { result ≡ none_after self.now.source.now self.now.rows.now self.now.count i }
+    {
+        let at = i * 4;
+        let key = self.rows[at] as usize;
+        let key_size = self.rows[at + 1] as usize;
+        let after = self.count - (i + 1);
+        find_key(self.source, &self.rows[at + 4..], after, key, key_size) == after
     }
-    no_key(source, rows, count, i)
-}
 
-// From the last row to the first.
-#[tactic(auto, unfolding(crate::specs::Grounds::keys_differ, crate::specs::Marks::Marked))]
-fn marks_differ(source: &[u8], rows: &[u32], count: usize, seen: &mut [u8; 256]) -> bool
-    requires { RowsLie source.now rows.now count × (length seen.old ≡ 256) }
-    ensures { result ≡ keys_differ source.now (rows_in count rows.now) }
-{
-    let mut differ = true;
-    let mut i = count;
-    while 0 < i {
-        i -= 1;
-        differ = mark_key(source, rows, count, i, seen) & differ;
+    // The same where the keys after it are marked: one whose place has no mark is none of them. Then its own is marked, too.
+    fn mark_key(&self, i: usize, seen: &mut [u8; 256]) -> bool
+        requires { (i < self.now.count) × MarkedFrom self.now.source.now self.now.rows.now self.now.count (i + 1) seen.old }
+        ensures { (result ≡ none_after self.now.source.now self.now.rows.now self.now.count i)
+            × MarkedFrom self.now.source.now self.now.rows.now self.now.count i seen.new }
+    {
+        let place = key_place(self.source, self.rows[i * 4], self.rows[i * 4 + 1]);
+        let mark = seen[place];
+        seen[place] = 1;
+        if mark == 0 {
+            return true;
+        }
+        self.no_key(i)
     }
-    differ
-}
 
-pub(crate) fn keys_differ(source: &[u8], rows: &[u32], count: usize) -> bool
-    requires { RowsLie source.now rows.now count }
-    ensures { result ≡ keys_differ source.now (rows_in count rows.now) }
-{
-    if count < 2 {
-        return true;
+    // From the last row to the first.
+    #[tactic(auto, unfolding(crate::specs::Grounds::keys_differ, crate::specs::Marks::Marked))]
+    fn marks_differ(&self, seen: &mut [u8; 256]) -> bool
+        ensures { result ≡ keys_differ self.now.source.now (rows_in self.now.count self.now.rows.now) }
+    {
+        let mut differ = true;
+        for i in (0..self.count).rev() {
+            differ = self.mark_key(i, seen) & differ;
+        }
+        differ
     }
-    if count == 2 {
-        return no_key(source, rows, count, 0);
+
+    // The marks are an array and no set: there is no heap here.
+    pub(crate) fn keys_differ(&self) -> bool
+        ensures { result ≡ keys_differ self.now.source.now (rows_in self.now.count self.now.rows.now) }
+    {
+        if self.count < 2 {
+            return true;
+        }
+        if self.count == 2 {
+            return self.no_key(0);
+        }
+        self.marks_differ(&mut [0; 256])
     }
-    let mut seen = [0; 256];
-    marks_differ(source, rows, count, &mut seen)
 }

@@ -1,7 +1,8 @@
 // The grounds that the rows give: 18's first three, and 17.
-ghost use Rattle.std.specs.Prelude.{◌≡◌, ◌&&◌, ◌+◌, ◌*◌, ◌≤◌, leb, length, get_or};
+ghost use Rattle.std.specs.Prelude.{◌≡◌, ◌*◌, ◌≤◌, length};
 ghost use Rattle.decoder.specs.Rows.{rows_in};
 ghost use Rattle.writer_checks.specs.Grounds.{has_map, rows_ok, rows_within};
+ghost use Rattle.writer_checks.specs.Fours.{row_within};
 
 use crate::fields::span_within;
 use schema::Kind;
@@ -32,28 +33,21 @@ pub(crate) fn rows_ok(kind: Kind, count: u32, lent: usize) -> bool
     few & allowed & ((count as usize) * 4 <= lent)
 }
 
-fn row_within(rows: &[u32], i: usize, size: usize) -> bool
-    requires { i * 4 + 4 ≤ length rows.now }
-    ensures { result ≡ (leb (get_or rows.now (i * 4) 0 + get_or rows.now (i * 4 + 1) 0) size
-        && leb (get_or rows.now (i * 4 + 2) 0 + get_or rows.now (i * 4 + 3) 0) size) }
+fn row_within(row: &[u32; 4], size: usize) -> bool
+    ensures { result ≡ row_within size row.now }
 {
-    let at = i * 4;
-    let key = span_within(rows[at], rows[at + 1], size);
-    let value = span_within(rows[at + 2], rows[at + 3], size);
-    key & value
+    let [key, key_size, value, value_size] = *row;
+    span_within(key, key_size, size) & span_within(value, value_size, size)
 }
 
-// From the last row to the first.
-#[tactic(auto, unfolding(crate::specs::Grounds::rows_within))]
 pub(crate) fn rows_within(rows: &[u32], count: usize, size: usize) -> bool
     requires { count * 4 ≤ length rows.now }
     ensures { result ≡ rows_within size (rows_in count rows.now) }
 {
-    let mut within = true;
-    let mut i = count;
-    while 0 < i {
-        i -= 1;
-        within = row_within(rows, i, size) & within;
+    // most messages have none
+    if count == 0 {
+        return true;
     }
-    within
+    let (rows, _) = rows[..count * 4].as_chunks::<4>();
+    rows.iter().all(|row| row_within(row, size))
 }

@@ -1,6 +1,6 @@
 -- What the deframer gives, as numbers.
 use mathlib.Core.Path.{ap, ◌∙◌}
-use Rattle.deframer.specs.declared.Step.{Step}
+use Rattle.deframer.specs.Step.{Step}
 use Rattle.bekurapi.specs.Answers.{progress_error, progress_size}
 use Rattle.bekurapi.proofs.trpc_deframe.Goals as goal
 

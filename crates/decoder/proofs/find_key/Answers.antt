@@ -1,25 +1,18 @@
--- `find_key` meets its contract: none of the rows passed has the key (`Seek`).
-use native.Mathlib.Omega.{arith}
-use Rattle.decoder.proofs.RowUpdates.{seek_start, seek_end, seek_found, seek_next}
+-- The rows that are lent, each as its four numbers, and the first of them that has the key.
+use Rattle.std.proofs.Common.{rules, tests, ◌∙◌, ap, ℕ, take}
+use Rattle.std.proofs.lemmas.Iterator.{YieldsList-from_slice}
+use Rattle.std.proofs.lemmas.Iterator.Search.{position_from_yields_List}
+use Rattle.decoder.specs.Fields.{part_of}
+use Rattle.decoder.proofs.Fours.{has_key, first_lent}
 use Rattle.decoder.proofs.find_key.Goals as goal
-
-pub loop-i-init : goal.loop-i-init
-loop-i-init c =
-    (omega arith, c.least-n.ensures, seek_start _ _ _)
-
-pub returns-then-same_key : goal.returns-then-same_key
-returns-then-same_key c =
-    let inv = c.loop-i.invariant in
-    seek_found _ _ _ _ _ inv.2 (omega (arith, c.loop-i-test.true, inv.1)) _ c.same_key.ensures c.if-same_key.true
-
-pub loop-i-preserved : goal.loop-i-preserved
-loop-i-preserved c =
-    let inv = c.loop-i.invariant in (
-      omega arith,
-      inv.1,
-      seek_next _ _ _ _ _ inv.2 (omega (arith, c.loop-i-test.true, inv.1)) _ c.same_key.ensures c.if-same_key.false,
-    )
 
 pub returns : goal.returns
 returns c =
-    let inv = c.loop-i.invariant in seek_end _ _ _ _ _ inv.2 (omega (arith, c.loop-i-test.false, inv.1))
+    let args = c.args in
+    let key = part_of args.bytes.now args.key args.key_size in
+    let chunks = c.as_chunks.ensures in
+    c.unwrap_or.ensures
+    ∙ first_lent args.bytes.now key args.count args.rows.now c.as_chunks.result.0.now _ chunks.front chunks.front_len
+    (ap (λ (n : ℕ). take n c.as_chunks.result.0.now) c.min.ensures) c.position.result
+    (position_from_yields_List (has_key args.bytes.now key) _ _ _ c.position.ensures.ran (YieldsList-from_slice _ cc)
+    (λ x b q k. search (rules, tests)))

@@ -1,7 +1,10 @@
 -- The definition's outcomes of a call: a ceiling out of range, a small buffer, a held code, and the moves by how much is held.
+use Prim.Native.Nat.{ℕ}
+use mathlib.Core.Path.{ap, ◌∙◌}
 use borrow.Author.Rules.{rules}
 use Rattle.laws.proofs.Tests.{fails, holds}
 use Rattle.fixed_header.proofs.Codes.{ceiling_range}
+use Rattle.deframer.specs.Deframe.{refuse}
 use Rattle.deframer.proofs.Advance.{call_ceiling, call_small, call_held, call_moves, called_refused, called_moved}
 use Rattle.deframer.proofs.Known.{known_short}
 use Rattle.deframer.proofs.deframe.Goals as goal
@@ -20,15 +23,15 @@ returns-then-buffer-ceiling c =
     (call_small c.args.ceiling c.args.state c.args.buffer.now c.args.piece.now in_range c.if-buffer-ceiling.true) in
     record { value = m.0; buffer_after = m.1 }
 
-pub repeated-requires : goal.repeated-requires
-repeated-requires c =
+pub held_refusal-requires : goal.held_refusal-requires
+held_refusal-requires c =
     let in_range = ceiling_range c.args.ceiling (holds c.ceiling_ok.ensures c.if-not-ceiling_ok.false-raw) in
     search rules
 
 pub returns-then-state-ne0 : goal.returns-then-state-ne0
 returns-then-state-ne0 c =
     let in_range = ceiling_range c.args.ceiling (holds c.ceiling_ok.ensures c.if-not-ceiling_ok.false-raw) in
-    let m = called_refused c.args.ceiling c.args.state c.args.buffer.now c.args.piece.now _ _ c.repeated.ensures
+    let m = called_refused c.args.ceiling c.args.state c.args.buffer.now c.args.piece.now _ _ (c.refused-then-state-ne0.ensures ∙ ap (λ (n : ℕ). refuse n c.args.state) (c.held_refusal.ensures c.if-state-ne0.true))
     (call_held c.args.ceiling c.args.state c.args.buffer.now c.args.piece.now in_range c.if-buffer-ceiling.false c.if-state-ne0.true) in
     record { value = m.0; buffer_after = m.1 }
 

@@ -1,4 +1,4 @@
--- The ceiling, then the length, then `fault`.
+-- The ceiling, then the length, then `check`.
 use native.Mathlib.Omega.{arith}
 use borrow.Author.Tests.{eq-eqb, ne_eqb}
 use Rattle.fixed_header.specs.Header.{header_error}
@@ -15,12 +15,12 @@ unfolding header_error
 returns-then-bytes-ne-HEADER c =
     rw (holds c.ceiling_ok.ensures c.if-not-ceiling_ok.false-raw, ne_eqb _ _ c.if-bytes-ne-HEADER.true)
 
-pub fault-requires : goal.fault-requires
-fault-requires c =
+pub check-requires : goal.check-requires
+check-requires c =
     let in_range = ceiling_range _ (holds c.ceiling_ok.ensures c.if-not-ceiling_ok.false-raw) in
     (omega (arith, c.if-bytes-ne-HEADER.false), in_range.0)
 
 pub returns : goal.returns
 unfolding header_error
 returns c =
-    rw (holds c.ceiling_ok.ensures c.if-not-ceiling_ok.false-raw, eq-eqb _ _ c.if-bytes-ne-HEADER.false) c.fault.ensures
+    rw (holds c.ceiling_ok.ensures c.if-not-ceiling_ok.false-raw, eq-eqb _ _ c.if-bytes-ne-HEADER.false) c.check.ensures

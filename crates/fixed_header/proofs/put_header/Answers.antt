@@ -1,10 +1,9 @@
--- Its numbers, each at its place.
+-- The 16 bytes in the place of the output's first.
 use Prim.Native.Nat.{◌<◌, ◌≤◌}
 use native.Mathlib.Omega.{arith}
 use borrow.Author.Tests.{lt-leb, le-leb}
 use lib.ListN.{length}
-use lib.Seq.{sets-eq}
-use Rattle.fixed_header.specs.Put.{fixed_header, header_put}
+use Rattle.fixed_header.specs.Put.{header_put}
 use Rattle.fixed_header.proofs.put_header.Goals as goal
 
 pub returns-then-out-lt-HEADER : goal.returns-then-out-lt-HEADER
@@ -14,19 +13,7 @@ returns-then-out-lt-HEADER c =
     let short = lt-leb _ _ few in (rw short, rw short)
 
 pub returns : goal.returns
-unfolding header_put fixed_header
+unfolding header_put
 returns c =
-    let stored = sets-eq (fixed_header c.args.header) c.args.out.now 0 (omega arith) in
     let enough : 16 ≤ length c.args.out.now = omega arith in
-    let room = le-leb _ _ enough in (
-      rw room,
-      rw (
-        room,
-        c.put_version.ensures,
-        c.put_u32-2.ensures,
-        c.put_u16.ensures,
-        c.put_u32.ensures,
-        c.put_types.ensures,
-      )
-          stored,
-    )
+    let room = le-leb _ _ enough in (rw room, rw (room, c.copy_from_slice.ensures.after, c.bytes_of.ensures))

@@ -3,7 +3,8 @@ use Rattle.std.proofs.Common.{◌≡◌, ℕ, ◌+◌, ◌-◌, ◌<◌, ◌≤�
 use Rattle.fixed_header.specs.Header.{max_frame}
 use Rattle.deframer.specs.Deframe.{deframed, is_refused}
 use Rattle.deframer.specs.declared.Deframer.{Deframer}
-use Rattle.deframer.specs.declared.Step.{Step}
+use Rattle.deframer.specs.InNumbers.{step_in_numbers}
+use Rattle.deframer.specs.Step.{Step}
 use Rattle.deframer.proofs.Taken.{taken_within, taken_some}
 use Rattle.listing.proofs.deframe_rest.Goals as goal
 
@@ -25,4 +26,4 @@ returns-clause-taken_in_bounds c =
     let piece = c.args.piece.now in
     let from = c.args.from in
     let answer = c.deframe.ensures.value ∙ ap (λ (r : List ℕ). (deframed max_frame st buffer r).step) (whole piece from) in
-    taken st buffer piece from c.deframe.result (omega arith) answer
+    taken st buffer piece from (step_in_numbers c.deframe.result) (omega arith) answer

@@ -1,11 +1,7 @@
--- `by_grammar` meets its contract: `Judged` is kept by each way through a turn. It ends because the slice does. Assumes nothing.
-use Prim.Native.Nat.{◌-◌}
-use lib.ListN.{length}
-use Rattle.utf8.proofs.Judged.{Judged}
+-- At each turn the bytes from the next on are judged as all of them are.
+use Rattle.std.proofs.Common.{◌≡◌, drop}
+use Rattle.utf8.specs.Grammar.{tailed, utf8}
 use Rattle.utf8.proofs.by_grammar.Given as goal
 
-abbrev pub invariant-loop-i : goal.invariant-loop-i
-invariant-loop-i l = Judged l.s l.need l.lo l.hi l.i
-
-abbrev pub decreases-loop-i : goal.decreases-loop-i
-decreases-loop-i l = length l.s - l.i
+abbrev pub invariant-loop-b : goal.invariant-loop-b
+invariant-loop-b l = tailed (drop l.b-index l.s) l.begun.need l.begun.lo l.begun.hi ≡ utf8 l.s

@@ -1,19 +1,33 @@
--- `is_ascii` meets its contract: all before the eight bytes that end at i are ASCII (`Passed`), and the last eight reach back to them.
--- It ends because the slice does. Assumes nothing.
-use mathlib.Core.Path.{sym, ◌∙◌}
-use native.Mathlib.Omega.{arith}
-use Rattle.utf8.proofs.AsciiLaws.{passed_none, passes_eight, eight_stop, last_eight}
+use Rattle.std.proofs.Common.{rules}
+use Rattle.std.proofs.lemmas.Iterator.{cases_from_all, YieldsList-from_slice}
+use Prim.Native.Nat.{◌<◌, ◌≤◌, ◌-◌}
+use mathlib.Core.Path.{◌≡◌}
+use mathlib.Core.Bool.{true, false}
+use lib.ListN.{length, drop}
+use Rattle.utf8.specs.Ascii.{ascii}
+use borrow.Author.Tests.{tests}
+use Rattle.utf8.proofs.AsciiLaws.{one_by_one, eight_stops, last_eight}
 use Rattle.utf8.proofs.is_ascii.Goals as goal
 
-pub returns-then-not-ascii_8 : goal.returns-then-not-ascii_8
-returns-then-not-ascii_8 c = eight_stop c.loop-i.invariant (sym c.ascii_8.ensures ∙ c.if-not-ascii_8.true)
+pub returns-in_default : goal.returns-in_default
+returns-in_default c =
+    one_by_one _ c.args.s.now
+    (cases_from_all _ _ _ (λ x. x < 0x80) (λ x. 0x80 ≤ x) c.all.ensures.ran (YieldsList-from_slice c.args.s.now c.iter.ensures.rest)
+    (λ x q k. search (rules, tests)) (λ x q k. search (rules, tests)))
 
-pub loop-i-preserved : goal.loop-i-preserved
-loop-i-preserved c =
-    passes_eight c.loop-i.invariant (omega arith) (sym c.ascii_8.ensures ∙ c.if-not-ascii_8.false)
+pub returns-then-all : goal.returns-then-all
+returns-then-all c =
+    let last : c.in-Some.last.now ≡ drop (length c.args.s.now - 8) c.args.s.now = c.in-Some.ensures.cases.1.same in
+    rw (c.ascii_8.ensures, last)
+    (last_eight c.args.s.now c.as_chunks.ensures.front c.as_chunks.ensures.front_len
+    (cases_from_all _ _ _ (λ x. ascii x ≡ true) (λ x. ascii x ≡ false) c.all-2.ensures.ran
+    (YieldsList-from_slice c.as_chunks.result.0.now c.iter-2.ensures.rest) (λ x q k. search rules) (λ x q k. search rules))
+    c.if-all.true c.in-Some.ensures.cases.0)
 
-pub returns : goal.returns
-returns c = c.ascii_8-2.ensures ∙ last_eight c.loop-i.invariant (omega arith) (omega arith)
-
-pub loop-i-init : goal.loop-i-init
-loop-i-init c = passed_none _ (omega arith)
+pub returns-else-all : goal.returns-else-all
+returns-else-all c =
+    rw c.if-all.false
+    (eight_stops c.args.s.now c.as_chunks.ensures.front c.as_chunks.ensures.front_len
+    (cases_from_all _ _ _ (λ x. ascii x ≡ true) (λ x. ascii x ≡ false) c.all-2.ensures.ran
+    (YieldsList-from_slice c.as_chunks.result.0.now c.iter-2.ensures.rest) (λ x q k. search rules) (λ x q k. search rules))
+    c.if-all.false)

@@ -12,8 +12,8 @@ decreases-skip_group l = 2 * l.depth + 1
 abbrev pub decreases-skip_value : goal.decreases-skip_value
 decreases-skip_value l = 2 * l.depth
 
-abbrev pub invariant-skip_group-loop-code : goal.invariant-skip_group-loop-code
-invariant-skip_group-loop-code l = Walk l.s l.number l.depth l.at l.end l.i
+abbrev pub invariant-skip_group-loop-tag : goal.invariant-skip_group-loop-tag
+invariant-skip_group-loop-tag l = Walk l.s l.number l.depth l.at l.end l.i
 
-abbrev pub decreases-skip_group-loop-code : goal.decreases-skip_group-loop-code
-decreases-skip_group-loop-code l = min l.end (length l.s) - l.i
+abbrev pub decreases-skip_group-loop-tag : goal.decreases-skip_group-loop-tag
+decreases-skip_group-loop-tag l = min l.end (length l.s) - l.i

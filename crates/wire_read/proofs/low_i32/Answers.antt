@@ -1,17 +1,14 @@
--- `low_i32` meets its contract. Below 2^31 the low 32 bits are the number; from there they are -1 less their complement (`SignedLaws`).
+-- `low_i32` meets its contract. The low 32 bits, read as a signed number, are the two's complement (`SignedLaws`).
 use mathlib.Core.Path.{ap, ◌∙◌}
+use native.Mathlib.Omega.{arith}
+use mir.Syntax.{w32}
+use Rattle.std.proofs.lemmas.Int.{of_z-to_z}
 use Rattle.wire_read.specs.Varint.{twos_complement}
-use Rattle.wire_read.proofs.SignedLaws.{low_half, high_fits, high_half}
+use Rattle.wire_read.proofs.SignedLaws.{signed_is}
 use Rattle.wire_read.proofs.low_i32.Goals as goal
 
-pub overflow_sub-result-else-low-lt2147483648 : goal.overflow_sub-result-else-low-lt2147483648
-overflow_sub-result-else-low-lt2147483648 c =
-    high_fits _ c.if-low-lt2147483648.false
-
-pub returns-then-low-lt2147483648 : goal.returns-then-low-lt2147483648
-returns-then-low-lt2147483648 c =
-    low_half _ c.if-low-lt2147483648.true ∙ ap twos_complement c.low_u32-low.ensures
-
-pub returns-else-low-lt2147483648 : goal.returns-else-low-lt2147483648
-returns-else-low-lt2147483648 c =
-    high_half _ c.if-low-lt2147483648.false ∙ ap twos_complement c.low_u32-low.ensures
+pub returns : goal.returns
+returns c =
+    let low = c.low_u32.result in
+    rw (c.cast_signed.ensures, of_z-to_z w32 low (omega (arith, c.low_u32.ensures)))
+    (signed_is low ∙ ap twos_complement c.low_u32.ensures)

@@ -3,12 +3,13 @@
 use Prim.Native.Nat.{◌-◌}
 use mathlib.Core.Path.{◌≡◌}
 use lib.ListN.{length}
+use Rattle.std.specs.Prelude.{Ok}
 use Rattle.wire_walk.specs.Last.{last_of, last_field}
 use Rattle.wire_walk.proofs.WalkLaws.{answers_from}
 use Rattle.wire_walk.proofs.last_field.Given as goal
 
-abbrev pub invariant-loop-at : goal.invariant-loop-at
-invariant-loop-at l = last_of l.tag l.found (answers_from l.bytes l.at) ≡ last_field l.tag l.bytes
+abbrev pub invariant-loop-step : goal.invariant-loop-step
+invariant-loop-step l = last_of l.tag (Ok l.found) (answers_from l.bytes l.at) ≡ last_field l.tag l.bytes
 
-abbrev pub decreases-loop-at : goal.decreases-loop-at
-decreases-loop-at l = length l.bytes - l.at
+abbrev pub decreases-loop-step : goal.decreases-loop-step
+decreases-loop-step l = length l.bytes - l.at

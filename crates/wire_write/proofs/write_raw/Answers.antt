@@ -6,10 +6,10 @@ use mathlib.Core.List.{List}
 use lib.ListN.{length}
 use native.Mathlib.Omega.{arith}
 use borrow.Author.Tests.{leb-true, leb-false}
+use Rattle.std.specs.Prelude.{Ok, Err}
 use Rattle.refusals.specs.Numbers.{output_short}
 use Rattle.copying.specs.Stored.{fits}
 use Rattle.wire_write.specs.Writing.{written_at}
-use Rattle.wire_write.specs.declared.Written.TheVariants.{Next, Refused}
 use Rattle.wire_write.proofs.Outputs.{written, full}
 use Rattle.wire_write.proofs.write_raw.Goals as goal
 
@@ -17,10 +17,10 @@ module _ (out x : List ℕ) (at : ℕ) (b : Bool) (is_b : b ≡ fits out at x) w
   room : b ≡ true → at + length x ≤ length out
   room t = leb-true (at + length x) (length out) (sym is_b ∙ t)
 
-  stores : b ≡ true → (next : ℕ) → next ≡ at + length x → Next next ≡ written_at out at x
+  stores : b ≡ true → (next : ℕ) → next ≡ at + length x → Ok next ≡ written_at out at x
   stores t next e = written out at x (room t) next e
 
-  refuses : b ≡ false → Refused output_short ≡ written_at out at x
+  refuses : b ≡ false → Err output_short ≡ written_at out at x
   refuses t = (full out at x (omega (arith, leb-false (at + length x) (length out) (sym is_b ∙ t)))).0
 
 pub overflow_add-result : goal.overflow_add-result

@@ -3,10 +3,10 @@ use mathlib.Core.Path.{refl}
 use Rattle.writer.specs.Writing.{count_of}
 use Rattle.bekurapi.proofs.answers.encoded_size.Goals as goal
 
-pub returns-in-Frame : goal.returns-in-Frame
+pub returns-in-Ok : goal.returns-in-Ok
 unfolding count_of
-returns-in-Frame c = rw c.in-Frame.is refl
+returns-in-Ok c = rw c.in-Ok.is refl
 
-pub returns-in-Refused : goal.returns-in-Refused
+pub returns-in-Err : goal.returns-in-Err
 unfolding count_of
-returns-in-Refused c = rw c.in-Refused.is refl
+returns-in-Err c = rw c.in-Err.is refl

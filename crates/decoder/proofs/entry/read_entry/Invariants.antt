@@ -4,8 +4,8 @@ use Prim.Native.Nat.{◌-◌}
 use Rattle.decoder.proofs.EntryLaws.{ReadingEntry}
 use Rattle.decoder.proofs.entry.read_entry.Given as goal
 
-abbrev pub invariant-loop-code : goal.invariant-loop-code
-invariant-loop-code l = ReadingEntry l.frame l.at l.end l.i l.e
+abbrev pub invariant-loop-step : goal.invariant-loop-step
+invariant-loop-step l = ReadingEntry l.frame l.at l.end l.i l.e
 
-abbrev pub decreases-loop-code : goal.decreases-loop-code
-decreases-loop-code l = l.end - l.i
+abbrev pub decreases-loop-step : goal.decreases-loop-step
+decreases-loop-step l = l.end - l.i

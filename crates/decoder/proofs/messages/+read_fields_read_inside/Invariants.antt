@@ -11,8 +11,8 @@ decreases-read_fields l = 2 * (l.end - l.at)
 abbrev pub decreases-read_inside : goal.decreases-read_inside
 decreases-read_inside l = 2 * l.size + 1
 
-abbrev pub invariant-read_fields-loop-code : goal.invariant-read_fields-loop-code
-invariant-read_fields-loop-code l = Reading l.frame l.schema l.at l.end l.initial.slots l.initial.rows l.i l.slots l.rows
+abbrev pub invariant-read_fields-loop-step : goal.invariant-read_fields-loop-step
+invariant-read_fields-loop-step l = Reading l.frame l.schema l.at l.end l.initial.slots l.initial.rows l.i l.slots l.rows
 
-abbrev pub decreases-read_fields-loop-code : goal.decreases-read_fields-loop-code
-decreases-read_fields-loop-code l = l.end - l.i
+abbrev pub decreases-read_fields-loop-step : goal.decreases-read_fields-loop-step
+decreases-read_fields-loop-step l = l.end - l.i

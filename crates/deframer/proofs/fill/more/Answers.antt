@@ -1,8 +1,6 @@
 -- The state is not known, or the frame goes on.
-use mathlib.Core.Path.{ap, ◌∙◌}
+use mathlib.Core.Path.{◌∙◌}
 use native.Mathlib.Omega.{arith}
-use borrow.Author.Tests.{lt-ltb}
-use lib.Dec.{ltb}
 use lib.ListN.{take}
 use Rattle.fixed_header.proofs.Codes.{good_total}
 use Rattle.deframer.specs.Deframe.{stream}
@@ -10,34 +8,32 @@ use Rattle.deframer.proofs.Advance.{begins, content_moved, call_unknown, call_mo
 use Rattle.deframer.proofs.Known.{known_by}
 use Rattle.deframer.proofs.fill.more.Goals as goal
 
-pub returns-then-total-eq0 : goal.returns-then-total-eq0
-returns-then-total-eq0 c =
+pub returns-in-None : goal.returns-in-None
+returns-in-None c =
     let st = c.args.state in
     let d = c.args.buffer.now in
     let p = c.args.piece.now in
     let most = c.args.ceiling in
-    let by-held = c.frame_size-total.ensures.bytes_value c.requires.2 (omega arith) in
-    let unknown = known_by most st d c.requires.3 (by-held ∙ ap (ltb 0) c.if-total-eq0.true) in
+    let unknown = known_by most st d c.requires.3 (c.in-None.ensures.bytes_value c.requires.2 (omega arith)) in
     let m = called_refused most st d p 2 _ c.refused.ensures (call_unknown most st d p c.requires.0 c.requires.1 unknown) in
     record { value = m.0; buffer_after = m.1 }
 
 pub content-requires : goal.content-requires
 content-requires c =
-    let good = c.frame_size-total.ensures.in_bounds c.if-total-eq0.false in
+    let good = c.in-Some.ensures.in_bounds in
     let total = good_total c.args.ceiling (take 16 c.args.buffer.now) good.1 in
     (omega arith, omega arith, omega arith, omega arith)
 
-pub returns : goal.returns
-returns c =
+pub returns-in-Some : goal.returns-in-Some
+returns-in-Some c =
     let st = c.args.state in
     let d = c.args.buffer.now in
     let p = c.args.piece.now in
     let most = c.args.ceiling in
-    let size = c.frame_size-total.result in
-    let good = c.frame_size-total.ensures.in_bounds c.if-total-eq0.false in
+    let size = c.in-Some.total in
+    let good = c.in-Some.ensures.in_bounds in
     let total = good_total most (take 16 d) good.1 in
-    let by-held = c.frame_size-total.ensures.bytes_value c.requires.2 (omega arith) in
-    let known = known_by most st d c.requires.3 (by-held ∙ lt-ltb 0 size (omega arith)) in
+    let known = known_by most st d c.requires.3 (c.in-Some.ensures.bytes_value c.requires.2 (omega arith)) in
     let begun = begins most d p st.held size c.requires.2 (omega arith) good.1 good.2 in
     let m = called_moved most st d p _ _ (call_moves most st d p c.requires.0 c.requires.1 known c.requires.3)
     (content_moved most size _ _ d (stream st.held d p) st.held begun.0 begun.1 begun.2

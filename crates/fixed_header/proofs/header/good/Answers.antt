@@ -6,6 +6,7 @@ use mathlib.Core.List.{List}
 use borrow.Author.Tests.{ne_eqb}
 use lib.Dec.{eqb}
 use lib.ListN.{get_or}
+use Rattle.refusals.proofs.Answers.{refused, not_refused}
 use Rattle.fixed_header.specs.Header.{total_of, header_size_of, total_ok, header_size_ok, type_fault, size_fault, fault_of}
 use Rattle.fixed_header.proofs.Codes.{types_pass}
 use Rattle.fixed_header.proofs.header.good.Goals as goal
@@ -32,12 +33,13 @@ module _ (c : ℕ) (h : List ℕ) (types : ℕ) (is-types : types ≡ type_fault
       is ∙ rw (is_total, is_size) (two-rules (total_ok c (total_of h)) (header_size_ok (get_or h 2 0) (total_of h) (header_size_of h)))
       ∙ sym (ap (λ (n : ℕ). eqb n 0) rest)
 
-pub returns-then-type_fault-ne0 : goal.returns-then-type_fault-ne0
-returns-then-type_fault-ne0 c = bad _ _ _ c.type_fault.ensures c.if-type_fault-ne0.true
+pub returns-then-is_err : goal.returns-then-is_err
+returns-then-is_err c = bad _ _ _ c.check_types.ensures (refused _ (sym c.is_err.ensures.value ∙ c.if-is_err.true))
 
 pub returns : goal.returns
 returns c =
-    by-sizes _ _ _ c.type_fault.ensures c.if-type_fault-ne0.false _ _ c.total.ensures c.header_size.ensures.0 c.sizes_ok.ensures
+    by-sizes _ _ _ c.check_types.ensures (not_refused _ (sym c.is_err.ensures.value ∙ c.if-is_err.false)) _ _ c.total.ensures
+    c.header_size.ensures.0 c.sizes_ok.ensures
 
 pub sizes_ok-requires : goal.sizes_ok-requires
 sizes_ok-requires c =

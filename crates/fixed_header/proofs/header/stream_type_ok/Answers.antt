@@ -4,12 +4,10 @@ use Rattle.fixed_header.specs.Header.{stream_type_ok}
 use Rattle.laws.proofs.Tests.{tests}
 use Rattle.fixed_header.proofs.header.stream_type_ok.Goals as goal
 
-pub returns-then-stream_type-lt1 : goal.returns-then-stream_type-lt1
+pub returns-then-stream_type-ge1 : goal.returns-then-stream_type-ge1
 unfolding stream_type_ok
-returns-then-stream_type-lt1 c =
-    search (rules, tests)
+returns-then-stream_type-ge1 c = search (rules, tests)
 
-pub returns : goal.returns
+pub returns-else-stream_type-ge1 : goal.returns-else-stream_type-ge1
 unfolding stream_type_ok
-returns c =
-    search (rules, tests)
+returns-else-stream_type-ge1 c = search (rules, tests)

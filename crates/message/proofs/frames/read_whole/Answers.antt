@@ -7,13 +7,12 @@ use Rattle.message.proofs.frames.read_whole.Goals as goal
 pub returns-then-frame-header : goal.returns-then-frame-header
 returns-then-frame-header c =
     size_refused max_frame c.args.kind c.args.frame.now c.args.rows.now c.requires.0 c.requires.1
-    c.args.header c.requires.2 c.if-frame-header.true c.refused.ensures
+    c.args.header c.requires.2 c.if-frame-header.true
 
 pub returns-then-not-kind_fits : goal.returns-then-not-kind_fits
 returns-then-not-kind_fits c =
     kind_refused max_frame c.args.kind c.args.frame.now c.args.rows.now c.requires.0 c.requires.1
     c.args.header c.requires.2 c.if-frame-header.false (sym c.kind_fits.ensures ∙ c.if-not-kind_fits.true)
-    c.refused-then-not-kind_fits.ensures
 
 pub read_message-requires : goal.read_message-requires
 read_message-requires c = (

@@ -1,40 +1,42 @@
--- `queue::due::earliest` meets its contract: best leads the first i jobs, and the leader of all that wait is their earliest.
+-- `queue::due::earliest` meets its contract: the job found leads the first i jobs, and the leader of all is their earliest.
 -- Assumes nothing.
-use mathlib.Core.Path.{◌≡◌, sym, ◌∙◌}
+use Prim.Native.Nat.{◌<◌, max}
+use mathlib.Core.Path.{◌≡◌, sym, ap, ap₂, ◌∙◌}
 use native.Mathlib.Omega.{arith}
 use borrow.Author.Rules.{rules}
-use Rattle.queue.proofs.Leader.{leads_one, leads_changed, leads_still, leads_earliest}
-use Rattle.queue.proofs.Valid.{valid, arrival_at}
+use lib.ListN.{length}
+use lib.Seq.{take-length}
+use Rattle.queue.specs.Due.{due, earlier}
+use Rattle.queue.specs.Waiting.{job_at, earliest}
+use Rattle.queue.proofs.Leader.{leads_one, goes_on_changed, goes_on_still, leads_earliest}
 use Rattle.queue.proofs.due.earliest.Goals as goal
 use Rattle.queue.proofs.due.earliest.Goals.{then-due_before, else-due_before}
 
 pub loop-i-init : goal.loop-i-init
-loop-i-init c = (leads_one c.args.q.jobs, omega arith, (valid c.args.q c.requires.0).few, search rules)
-
-pub due_before-requires : goal.due_before-requires
-due_before-requires c =
-    let q = c.args.q in
-    let l = c.loop-i in
-    let valid = c.requires.0 in
-    (arrival_at q l.i valid (omega arith) (omega arith), arrival_at q l.best valid (omega arith) (omega arith))
+loop-i-init c =
+    let first : c.in_ok-first.field-0.now ≡ job_at c.args.jobs.now 0 = search rules in
+    record { leads = leads_one c.args.jobs.now; best_is = c.due_of-best.ensures ∙ ap due first }
 
 pub loop-i-preserved : goal.loop-i-preserved
 loop-i-preserved c =
-    let w = c.args.q.jobs in
+    let w = c.args.jobs.now in
     let l = c.loop-i in
-    let test = sym c.due_before.ensures in (
-      elim c.if-due_before.branch [
-        | then-due_before came ↦ rw came.best-is (leads_changed w l.i l.best l.invariant.0 (test ∙ came.if-due_before.true))
-        | else-due_before came ↦ rw came.best-is (leads_still w l.i l.best l.invariant.0 (test ∙ came.if-due_before.false))
-      ],
-      omega arith,
-      l.invariant.2,
-      l.invariant.3,
-    )
+    let test = ap₂ earlier (sym c.due_of-due.ensures) (sym l.invariant.best_is) ∙ sym c.due_before.ensures in
+    elim c.if-due_before.branch [
+      | then-due_before came ↦ rw (came.first-is, came.best-is)
+          (record { leads = goes_on_changed w l.i l.first l.invariant.leads (test ∙ came.if-due_before.true); best_is = c.due_of-due.ensures })
+      | else-due_before came ↦ rw (came.first-is, came.best-is)
+          (record { leads = goes_on_still w l.i l.first l.invariant.leads (test ∙ came.if-due_before.false); best_is = l.invariant.best_is })
+    ]
 
 pub returns : goal.returns
 returns c =
-    let q = c.args.q in
+    let w = c.args.jobs.now in
     let l = c.loop-i in
-    let e : l.i ≡ q.count = omega arith in
-    sym (leads_earliest q.jobs q.count l.best (omega arith) (rw e at l.invariant.0))
+    let some : 0 < length w = search rules in
+    let all : max 1 l.i ≡ length w = omega arith in
+    let leads = rw all at l.invariant.leads in
+    record {
+      inside = omega (arith, leads.inside);
+      is_earliest = sym (ap earliest (sym (take-length w)) ∙ leads_earliest w (length w) l.first (omega arith) leads);
+    }

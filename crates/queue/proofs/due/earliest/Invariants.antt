@@ -1,13 +1,14 @@
--- `queue::due::earliest` meets its contract: best leads the first i jobs, and the leader of all that wait is their earliest.
--- Assumes nothing.
-use Prim.Native.Nat.{◌-◌, ◌≤◌}
-use mathlib.Core.Path.{◌≡◌}
-use lib.ListN.{length}
+-- The first jobs are led by the one that was found, and at the start by the first of all.
+use Rattle.std.proofs.Common.{◌≡◌, max}
+use Rattle.queue.specs.Due.{due}
+use Rattle.queue.specs.Waiting.{job_at}
+use Rattle.queue.specs.Found.{as_due}
 use Rattle.queue.proofs.Leader.{Leads}
 use Rattle.queue.proofs.due.earliest.Given as goal
 
 abbrev pub invariant-loop-i : goal.invariant-loop-i
-invariant-loop-i l = Leads l.q.jobs l.i l.best × (l.i ≤ l.n) × (l.n ≤ 64) × (length l.q.jobs ≡ 64)
-
-abbrev pub decreases-loop-i : goal.decreases-loop-i
-decreases-loop-i l = l.n - l.i
+invariant-loop-i l =
+    record {
+      leads : Leads l.jobs (max 1 l.i) l.first;
+      best_is : as_due l.best ≡ due (job_at l.jobs l.first);
+    }

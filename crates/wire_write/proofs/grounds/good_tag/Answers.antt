@@ -13,7 +13,7 @@ module _ (n w : ℕ) where
   unfolding good_tag
   by_type h some = rw (lt-ltb (n * 8 + w) (2 ^ 32) (omega arith), lt-ltb 0 n some)
 
-  bad-number : n * 8 + w ≤ 4294967295 → n ≤ 0 → false ≡ good_tag n w
+  bad-number : n * 8 + w ≤ 4294967295 → n ≤ 0 → ltb 0 n ≡ good_tag n w
   unfolding good_tag
   bad-number h none = rw (lt-ltb (n * 8 + w) (2 ^ 32) (omega arith), le-ltb 0 n none)
 
@@ -29,6 +29,6 @@ pub returns-else-number-gt0 : goal.returns-else-number-gt0
 returns-else-number-gt0 c =
     bad-number _ _ c.if-number-wire_type-le4294967295.true c.if-number-gt0.false
 
-pub returns-else-number-wire_type-le4294967295 : goal.returns-else-number-wire_type-le4294967295
-returns-else-number-wire_type-le4294967295 c =
+pub returns : goal.returns
+returns c =
     too_large _ _ c.if-number-wire_type-le4294967295.false

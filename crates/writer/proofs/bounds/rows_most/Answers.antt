@@ -1,35 +1,21 @@
--- What is done and the rows that are left have the bound of all rows; a row has at most `most_row`.
+-- What is done and the rows that are left have the sum of all rows; a row has at most `most_row`.
+use mathlib.Core.List.{[]}
 use native.Mathlib.Omega.{arith}
-use Rattle.writer.proofs.Measures.{sum_more, sum_all}
+use Rattle.writer.specs.Straight.{row_most}
+use Rattle.writer.proofs.RowLoop.{sum_more, sum_all}
 use Rattle.writer.proofs.bounds.rows_most.Goals as goal
 
-pub loop-i-preserved : goal.loop-i-preserved
-loop-i-preserved c =
-    let inv = c.loop-i.invariant in (
+pub loop-row-preserved : goal.loop-row-preserved
+loop-row-preserved c =
+    let inv = c.loop-row.invariant in (
       omega arith,
-      omega arith,
-      sum_more _ _ _ _ _ inv.2 c.loop-i-test.true _ c.entry_at.ensures _ c.row_most-most.ensures.0,
+      sum_more row_most c.args.m.now.rows.now c.loop-row.row-index _ inv.1 [] c.loop-row-test.true _ c.row_most-most.ensures.0,
     )
 
-pub returns : goal.returns
-returns c = (sum_all _ _ _ _ _ c.loop-i.invariant.2 c.loop-i-test.false, omega arith)
-
-pub loop-i-init : goal.loop-i-init
-loop-i-init c =
-    (omega arith, omega arith, omega arith)
-
-pub entry_at-requires : goal.entry_at-requires
-entry_at-requires c =
-    omega arith
-
 pub overflow_add-most : goal.overflow_add-most
-overflow_add-most c =
-    omega arith
+overflow_add-most c = let few = c.args.m.now.few in omega arith
 
-pub overflow_add-i : goal.overflow_add-i
-overflow_add-i c =
-    omega arith
-
-pub loop-i-smaller : goal.loop-i-smaller
-loop-i-smaller c =
-    omega arith
+pub returns : goal.returns
+returns c =
+    let few = c.args.m.now.few in
+    (sum_all _ c.args.m.now.rows.now _ _ c.loop-row.invariant.1 c.loop-row-test.false, omega arith)

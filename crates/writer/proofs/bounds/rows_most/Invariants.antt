@@ -1,14 +1,10 @@
--- What is done and the rows that are left have the bound of all rows; a row has at most `most_row`.
-use Prim.Native.Nat.{◌+◌, ◌*◌, ◌-◌, ◌≤◌}
+-- What is done and the rows that are left have the sum of all rows; a row has at most `most_row`.
+use Prim.Native.Nat.{◌+◌, ◌*◌, ◌≤◌}
 use mathlib.Core.Path.{◌≡◌}
 use lib.ListN.{drop}
-use Rattle.decoder.specs.Rows.{rows_in}
-use Rattle.writer.specs.Straight.{most_row, rows_sum, row_most}
+use Rattle.writer.specs.Straight.{most_row, fours, rows_sum, row_most}
 use Rattle.writer.proofs.bounds.rows_most.Given as goal
 
-abbrev pub invariant-loop-i : goal.invariant-loop-i
-invariant-loop-i l =
-    (l.i ≤ l.count) × (l.most ≤ l.i * most_row) × (l.most + rows_sum row_most (drop l.i (rows_in l.count l.rows)) ≡ rows_sum row_most (rows_in l.count l.rows))
-
-abbrev pub decreases-loop-i : goal.decreases-loop-i
-decreases-loop-i l = l.count - l.i
+abbrev pub invariant-loop-row : goal.invariant-loop-row
+invariant-loop-row l =
+    (l.most ≤ l.row-index * most_row) × (l.most + rows_sum row_most (drop l.row-index (fours l.m.rows.now)) ≡ rows_sum row_most (fours l.m.rows.now))

@@ -1,20 +1,15 @@
--- A field is left out, or is its tag and its varint.
-use mathlib.Core.Path.{ap}
-use lib.ListN.{length}
-use native.Mathlib.Omega.{arith}
+-- It is written as it is.
+use mathlib.Core.Path.{refl}
 use Rattle.schema.specs.Schema.{uint32}
-use Rattle.writer.proofs.Pieces.{number_out, number_is}
-use Rattle.writer.proofs.Stores.{none}
+use Rattle.writer.specs.Encoding.{wide}
+use Rattle.writer.proofs.Pieces.{number_as}
+use Rattle.writer.proofs.Stores.{told}
 use Rattle.writer.proofs.put.put_number.Goals as goal
 
-pub returns-then-v-eq0 : goal.returns-then-v-eq0
-returns-then-v-eq0 c =
-    rw (number_out uint32 _ _ c.if-v-eq0.true) (none c.args.out.now c.args.at)
-
-pub put_head-requires : goal.put_head-requires
-put_head-requires c =
-    omega (arith, ap length (number_is _ c.requires.0 c.requires.1 _ c.if-v-eq0.false))
+pub put_wide-requires : goal.put_wide-requires
+unfolding wide
+put_wide-requires c = (c.requires.0, rw (number_as c.args.number c.requires.0 uint32 c.args.v c.args.v refl refl) c.requires.1)
 
 pub returns : goal.returns
-returns c =
-    rw (number_is _ c.requires.0 c.requires.1 _ c.if-v-eq0.false) c.put_head.ensures
+unfolding wide
+returns c = told (number_as c.args.number c.requires.0 uint32 c.args.v c.args.v refl refl) c.put_wide.ensures

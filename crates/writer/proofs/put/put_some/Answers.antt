@@ -1,5 +1,4 @@
 -- A field is left out, or written whole.
-use Prim.Native.Nat.{◌/◌}
 use Rattle.writer.proofs.Pieces.{some_out, some_in}
 use Rattle.writer.proofs.Stores.{none}
 use Rattle.writer.proofs.put.put_some.Goals as goal
@@ -10,9 +9,9 @@ returns-then-size-eq0 c =
 
 pub put_bytes-requires : goal.put_bytes-requires
 put_bytes-requires c =
-    let same = some_in (c.args.tag / 8) c.args.source.now c.args.start c.args.size c.requires.2 c.if-size-eq0.false in
-    (c.requires.0, c.requires.1, c.requires.2, rw same at c.requires.3)
+    let same = some_in c.args.number c.args.source.now c.args.start c.args.size c.requires.1 c.if-size-eq0.false in
+    (c.requires.0, c.requires.1, rw same at c.requires.2)
 
 pub returns : goal.returns
 returns c =
-    rw (some_in _ c.args.source.now c.args.start c.args.size c.requires.2 c.if-size-eq0.false) c.put_bytes.ensures
+    rw (some_in _ c.args.source.now c.args.start c.args.size c.requires.1 c.if-size-eq0.false) c.put_bytes.ensures

@@ -1,8 +1,8 @@
 -- Two's complement in 32 bits, then in 64.
 use Prim.Native.Nat.{ℕ, ◌+◌, ◌%◌, ◌≤◌, ◌<◌}
-use mathlib.Core.Path.{◌≡◌}
+use mathlib.Core.Path.{◌≡◌, refl, sym, ◌∙◌}
 use native.Mathlib.Omega.{arith}
-use borrow.Author.Tests.{lt-ltb, le-ltb}
+use borrow.Author.Tests.{lt-ltb, le-ltb, ne_eqb}
 use Rattle.wire_read.specs.Varint.{twos_complement}
 use Rattle.wire_write.specs.Writing.{sign_extended}
 use Rattle.schema.specs.Schema.{int32}
@@ -23,8 +23,9 @@ high v h k =
 
 pub returns-then-v-lt2147483648 : goal.returns-then-v-lt2147483648
 returns-then-v-lt2147483648 c =
-    low _ c.if-v-lt2147483648.true
+    (low _ c.if-v-lt2147483648.true, refl)
 
 pub returns : goal.returns
 returns c =
-    high _ c.if-v-lt2147483648.false (omega arith)
+    let v = c.args.v in
+    (high _ c.if-v-lt2147483648.false (omega arith), ne_eqb _ 0 (omega arith) ∙ sym (ne_eqb v 0 (omega arith)))

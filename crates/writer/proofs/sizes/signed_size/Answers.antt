@@ -1,12 +1,7 @@
--- By whether it is left out.
-use native.Mathlib.Omega.{arith}
-use Rattle.writer.proofs.Measures.{number_none, signed_some}
+-- It is 0 where what it is written as is 0.
+use Rattle.writer.specs.Straight.{number_size}
 use Rattle.writer.proofs.sizes.signed_size.Goals as goal
 
-pub returns-then-v-eq0 : goal.returns-then-v-eq0
-returns-then-v-eq0 c =
-    (number_none _ _ c.if-v-eq0.true, omega arith)
-
 pub returns : goal.returns
-returns c =
-    (omega (arith, signed_some _ c.if-v-eq0.false _ c.extended.ensures), omega arith)
+unfolding number_size
+returns c = (rw (c.extended.ensures.1, c.extended.ensures.0) at c.varint_size.ensures.0, c.varint_size.ensures.1)

@@ -1,0 +1,2 @@
+-- Demand 1, of every public entry
+pub mod AsksNothing

@@ -1,9 +1,0 @@
--- `full` ends: i counts up to 64.
-use Rattle.std.proofs.Common.{◌-◌, ◌≤◌}
-use Rattle.test_queue.proofs.full.Given as goal
-
-abbrev pub invariant-loop-i : goal.invariant-loop-i
-invariant-loop-i l = l.i ≤ 64
-
-abbrev pub decreases-loop-i : goal.decreases-loop-i
-decreases-loop-i l = 64 - l.i

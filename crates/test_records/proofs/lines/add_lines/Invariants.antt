@@ -1,6 +1,0 @@
--- The loop counts up to the end of the names.
-use Rattle.std.proofs.Common.{◌-◌, length}
-use Rattle.test_records.proofs.lines.add_lines.Given as goal
-
-abbrev pub decreases-loop-i : goal.decreases-loop-i
-decreases-loop-i l = length l.names - l.i
