@@ -1,8 +1,8 @@
 -- The job due first among the first jobs of a list, as a scan from the front keeps it, and that it is the earliest of the definitions.
 -- Assumes nothing.
-use Prim.Native.Nat.{ℕ, zero, suc, ◌+◌, ◌≤◌, ◌<◌, max}
-use mathlib.Core.Path.{◌≡◌, refl, sym, ap, ◌∙◌}
-use mathlib.Core.Bool.{Bool, true, false, not, true≢false}
+use Prim.Native.Nat.{ℕ, zero, suc, ◌+◌, ◌≤◌, ◌<◌}
+use mathlib.Core.Path.{◌≡◌, refl, ap}
+use mathlib.Core.Bool.{Bool, true, false, not}
 use mathlib.Core.List.{List, [], ◌∷◌}
 use native.Mathlib.Omega.{arith}
 use native.Mathlib.Numerals.{add-one}
@@ -11,7 +11,7 @@ use lib.ListN.{length, take}
 use lib.Seq.{length-take-le, take-length, get_or-take}
 use Rattle.queue.specs.declared.Job.{Job}
 use Rattle.queue.specs.declared.Queue.{Queue}
-use Rattle.queue.specs.Due.{due, earlier, due_before}
+use Rattle.queue.specs.Due.{due, due_before}
 use Rattle.queue.specs.Waiting.{zero_job, waiting, earliest, job_at, none_before}
 use Rattle.queue.proofs.Search.{place_is, any_none, any_some}
 use Rattle.queue.proofs.Deadlines.{earlier_self, earlier_back, earlier_past}
@@ -51,26 +51,6 @@ module _ (w : List Job) where
           unbeaten = below_more _ _ l.unbeaten e;
           first = l.first;
         }
-
-  -- the same from the start on, where the first job leads itself
-  pub goes_on_changed : (i b : ℕ) → Leads w (max 1 i) b → due_before (job_at w i) (job_at w b) ≡ true → Leads w (max 1 (i + 1)) i
-  goes_on_changed zero b l e =
-      let z : b ≡ 0 = omega (arith, l.inside) in
-      let f : earlier (due (job_at w 0)) (due (job_at w 0)) ≡ true = rw z at e in
-      absurd (true≢false (sym f ∙ earlier_self (due (job_at w 0))))
-  goes_on_changed (suc i) b l e =
-      let m : max 1 (suc i) ≡ suc i = omega arith in
-      let n : max 1 (suc i + 1) ≡ suc i + 1 = omega arith in
-      rw n (leads_changed (suc i) b (rw m at l) e)
-
-  pub goes_on_still : (i b : ℕ) → Leads w (max 1 i) b → due_before (job_at w i) (job_at w b) ≡ false → Leads w (max 1 (i + 1)) b
-  goes_on_still zero b l e =
-      let n : max 1 (0 + 1) ≡ max 1 0 = omega arith in
-      rw n l
-  goes_on_still (suc i) b l e =
-      let m : max 1 (suc i) ≡ suc i = omega arith in
-      let n : max 1 (suc i + 1) ≡ suc i + 1 = omega arith in
-      rw n (leads_still (suc i) b (rw m at l) e)
 
   -- the leader of the first n jobs is their earliest
   pub leads_earliest : (n b : ℕ) → n ≤ length w → Leads w n b → earliest (take n w) ≡ b

@@ -37,12 +37,13 @@ pub(crate) fn earliest(jobs: &[Job]) -> Option<usize>
     requires { any late jobs.now ≡ false }
     ensures { MatchOption result (jobs.now ≡ []) (IsEarliest jobs.now) }
 {
+    let (j, later) = jobs.split_first()?;
     let mut first = 0;
-    let mut best = due_of(jobs.first()?);
-    for (i, j) in jobs.iter().enumerate() {
+    let mut best = due_of(j);
+    for (i, j) in later.iter().enumerate() {
         let due = due_of(j);
         if due_before(due, best) {
-            first = i;
+            first = i + 1;
             best = due;
         }
     }
