@@ -133,6 +133,7 @@ pub(crate) fn more(state: Deframer, buffer: &mut [u8], ceiling: u32, piece: &[u8
 }
 
 // The header, of which fewer than 16 bytes are held, is checked once its 16th byte is there; after a good one the frame goes on.
+#[inline(always)]
 fn head(buffer: &mut [u8], ceiling: u32, held: usize, piece: &[u8]) -> Step
     requires { CeilingOk ceiling × (ceiling ≤ length buffer.old) × (held < 16) }
     ensures value { step_in_numbers result ≡ (advance ceiling held buffer.old (stream held buffer.old piece.now)).step }
