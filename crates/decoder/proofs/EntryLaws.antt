@@ -62,7 +62,7 @@ entry_start frame at end h k l = record { walk = record { to = h; long = k; rest
 
 module _ (frame : List ℕ) (at end i : ℕ) (e : MapEntry) (w : ReadingEntry frame at end i e)
     {s : Step} (is-s : Ok (Some s) ≡ step_at (take end frame) i) where
-  entry_varint : (n v next : ℕ) → s.field ≡ fields.Varint n v next → ReadingEntry frame at end s.at e
+  pub entry_varint : (n v next : ℕ) → s.field ≡ fields.Varint n v next → ReadingEntry frame at end s.at e
   entry_varint n v next q =
       record {
         walk = subst (Walk frame entry 0 (read_entry frame at end) end s.at) (entry_number n v (entry_state e))

@@ -1,4 +1,5 @@
 -- Laws of the codes, and the round trip of the 16 bytes
+pub mod Digits
 pub mod Codes
 pub mod RoundTrip
 pub mod Ceilings

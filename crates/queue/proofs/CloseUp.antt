@@ -4,9 +4,9 @@ use Prim.Native.Nat.{ℕ, suc, ◌+◌, ◌-◌, ◌≤◌, ◌<◌}
 use mathlib.Core.Path.{◌≡◌, sym, ap, ap₂, ◌∙◌}
 use mathlib.Core.List.{List, ◌∷◌, ◌++◌}
 use native.Mathlib.Omega.{arith}
-use lib.ListN.{length, take, drop, set, length-drop}
+use lib.ListN.{length, take, drop, get_or, set, length-drop}
 use native.Mathlib.Numerals.{add-one}
-use lib.Seq.{paste, length_paste_head, drop-cons, set_at, take-take}
+use lib.Seq.{paste, paste-zero, paste-suc, length_paste_head, drop-cons, set_at, take-take, get_or-drop}
 use Rattle.laws.proofs.Lists.{drop_take}
 use Rattle.queue.specs.declared.Job.{Job}
 use Rattle.queue.specs.declared.Queue.{Queue}
@@ -17,6 +17,22 @@ abbrev pub moved_up : List Job → ℕ → ℕ → List Job
 moved_up js at i = paste js at (drop (suc at) js) (i - at)
 
 module _ (js : List Job) (at : ℕ) where
+  pub moved_up_none : js ≡ moved_up js at at
+  moved_up_none = let e : at - at ≡ 0 = omega arith in rw e (paste-zero js at (drop (suc at) js))
+
+  pub moved_up_more :
+      (i : ℕ) → at ≤ i → i + 1 < length js
+      → set (moved_up js at i) i (job_at js (i + 1)) ≡ moved_up js at (i + 1)
+  moved_up_more i h k =
+      let e : i ≡ at + (i - at) = omega arith in
+      let f : i + 1 ≡ suc at + (i - at) = omega arith in
+      let g : suc (i - at) ≡ i + 1 - at = omega arith in
+      ap (λ (m : ℕ). set (moved_up js at i) i (job_at js m)) f
+      ∙ ap (λ (j : Job). set (moved_up js at i) i j) (sym (get_or-drop (suc at) js (i - at) zero_job))
+      ∙ ap (λ (m : ℕ). set (moved_up js at i) m (get_or (drop (suc at) js) (i - at) zero_job)) e
+      ∙ paste-suc js at (drop (suc at) js) (i - at) zero_job (omega arith) (omega (arith, length-drop (suc at) js))
+      ∙ ap (λ (m : ℕ). paste js at (drop (suc at) js) m) g
+
   -- the jobs after `at` are copied over those from `at` on
   pub copied_up : (n : ℕ) → at < n → paste js at (drop (at + 1) js) (n - (at + 1)) ≡ moved_up js at (n - 1)
   copied_up n h =

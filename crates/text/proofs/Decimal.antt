@@ -56,7 +56,7 @@ places_fewest (suc steps) n h = go (λ (big : 10 ≤ n). places_fewest steps (n 
     go rest false e = let big : 10 ≤ n = omega (arith, ltb-false n 10 e) in longer n _ big (rest big)
 
 -- the digits of a number, where `k` digits are the fewest that hold it
-digits_decimal : (n k : ℕ) → IsDigitCount 10 1 n k → last_digits 10 k n ≡ decimal n
+pub digits_decimal : (n k : ℕ) → IsDigitCount 10 1 n k → last_digits 10 k n ≡ decimal n
 unfolding decimal
 digits_decimal n k f = ap (λ (j : ℕ). last_digits 10 j n) (one_fewest n k (places_in n n) f (places_fewest n n (omega arith)))
 

@@ -1,6 +1,6 @@
--- Cases on two numbers.
+-- Cases on two numbers, and a number that an answer is compared with.
 use Prim.Native.Nat.{ℕ, ◌≤◌, ◌<◌}
-use mathlib.Core.Path.{◌≡◌, refl}
+use mathlib.Core.Path.{◌≡◌, refl, sym, ◌∙◌}
 use mathlib.Core.Bool.{Bool, true, false}
 use mathlib.Core.Logic.{◌⊎◌, inl, inr}
 use borrow.Author.Tests.{leb-true, leb-false, eqb-true, eqb-false}
@@ -19,3 +19,7 @@ same_or_not a b = by_test (eqb a b) refl
     by_test : (t : Bool) → eqb a b ≡ t → (a ≡ b) ⊎ (a ≡ b → ⊥)
     by_test true e = inl (eqb-true a b e)
     by_test false e = inr (eqb-false a b e)
+
+-- where a definition's value is known, an answer has to be that number
+pub answers : {n m k : ℕ} → m ≡ k → n ≡ k → n ≡ m
+answers e f = f ∙ sym e

@@ -9,6 +9,7 @@ mod Cases
 mod Firsts
 mod Steps
 mod Goes
+mod Judged
 mod Encodings
 mod Numbers
 mod Decoded

@@ -22,7 +22,7 @@ module _ (s : List ℕ) (at end width : ℕ) where
   abbrev Skipped : Result ℕ ℕ → Type 0
   Skipped k = k ≡ skip_at at (skip_fixed width (part s at end))
 
-  room : {next : ℕ} → Skipped (Ok next) → (leb width (length (part s at end)) ≡ true) × (next ≡ at + width)
+  pub room : {next : ℕ} → Skipped (Ok next) → (leb width (length (part s at end)) ≡ true) × (next ≡ at + width)
   unfolding skip_fixed skip_at
   room {next = next} e = by (leb width (length (part s at end))) refl
     where

@@ -1,7 +1,7 @@
 -- What `contents` and `skipping` make of an answer is what the definitions make of the reading that the answer places.
 -- Assumes nothing.
 use Prim.Native.Nat.{ℕ, ◌+◌}
-use mathlib.Core.Path.{◌≡◌, refl, ap}
+use mathlib.Core.Path.{◌≡◌, refl, sym, ap, ◌∙◌}
 use mathlib.Core.List.{List}
 use native.Mathlib.Omega.{arith}
 use Rattle.std.specs.Prelude.{Option, Some, Result, Ok}
@@ -77,3 +77,17 @@ module _ (at : ℕ) (s : List ℕ) where
     group_made =
         skip_cases (λ (x : FieldResult). then skips (group_of n) ≡ field_at at x) (λ (g : SkipResult). skip_value n 3 32 s ≡ g)
         (skip_value n 3 32 s) refl (λ code e. rw e) (λ used e. rw e)
+
+-- The same of the answer of a call, and of a case of it with its values
+module _ (at : ℕ) (s : List ℕ) (n : ℕ) where
+  pub varint_field_lem : {r q : Result Varint ℕ} → r ≡ varint_at at (varint s) → r ≡ q
+      → then q (number_of n) ≡ field_at at (content n VARINT s)
+  varint_field_lem is_r e = ap (λ (x : Result Varint ℕ). then x (number_of n)) (sym e ∙ is_r) ∙ varint_made at s n
+
+  pub bytes_field_lem : {r q : Result Length ℕ} → r ≡ length_at at (length_prefix s) → r ≡ q
+      → then q (bytes_of n) ≡ field_at at (content n LEN s)
+  bytes_field_lem is_r e = ap (λ (x : Result Length ℕ). then x (bytes_of n)) (sym e ∙ is_r) ∙ bytes_made at s n
+
+  pub group_field_lem : {r q : Result ℕ ℕ} → r ≡ skip_at at (skip_value n 3 32 s) → r ≡ q
+      → then q (group_of n) ≡ field_at at (content n SGROUP s)
+  group_field_lem is_r e = ap (λ (x : Result ℕ ℕ). then x (group_of n)) (sym e ∙ is_r) ∙ group_made at s n

@@ -2,7 +2,7 @@
 -- known of the rows from i - 1 on.
 use Prim.Native.Nat.{ℕ, zero, suc, ◌+◌, ◌*◌, ◌-◌, ◌<◌, ◌≤◌}
 use mathlib.Core.Path.{◌≡◌, refl, sym, ap, ap₂, ◌∙◌}
-use mathlib.Core.Bool.{Bool, true, false, not, cond, ◌&&◌, ◌||◌, and-true}
+use mathlib.Core.Bool.{Bool, true, false, not, cond, ◌&&◌, ◌||◌, and-true, and_assoc}
 use mathlib.Core.List.{List, [], ◌∷◌}
 use native.Mathlib.Omega.{arith}
 use native.Mathlib.Numerals.{add-one}
@@ -20,6 +20,10 @@ use Rattle.decoder.proofs.PartEnds.{part_rest}
 use Rattle.wire_read.specs.Part.{part}
 use Rattle.writer_checks.specs.Grounds.{max_rows, has_map, rows_ok, rows_within, no_key, keys_differ}
 use Rattle.writer_checks.specs.Marks.{none_after}
+
+-- three fields, one after the other, of a definition that goes along a schema
+pub three : {a b c x y z : Bool} → a ≡ x → b ≡ y → c ≡ z → a && b && c ≡ x && (y && (z && true))
+three {x = x} {y = y} {z = z} e f g = rw (and-true, e, f, g) (and_assoc x y z)
 
 -- ---- the rows
 -- key and value of row i
@@ -60,6 +64,12 @@ module _ (n : ℕ) (l : List ℕ) where
 
   -- one more row than those from i on
   module _ (i : ℕ) (some : 0 < i) (most : i ≤ n) {r rest : Bool} where
+    pub within_more : (size : ℕ) → r ≡ row_within size l (i - 1) → rest ≡ rows_within size (drop i (rows_in n l))
+        → r && rest ≡ rows_within size (drop (i - 1) (rows_in n l))
+    within_more size e f =
+        let same : i - 1 + 1 ≡ i = omega arith in
+        ap₂ ◌&&◌ e f ∙ sym (rw same at (within_at (i - 1) (omega arith) size))
+
     pub differ_more : (source : List ℕ) → r ≡ none_after source l n (i - 1)
         → rest ≡ keys_differ source (drop i (rows_in n l)) → r && rest ≡ keys_differ source (drop (i - 1) (rows_in n l))
     differ_more source e f =
@@ -113,6 +123,13 @@ none_after_lem count i source key numbers place some lent e =
     sym (no_key_place source key (drop (i + 1) (rows_in count numbers)) ∙ ap₂ eqb (sym (e ∙ ap (key_place source key) rows)) size)
 
 -- ---- the chain of grounds
+-- after `if !test(..)`: a ground that holds is the answer, and one that does not is passed
+pub given : (m ok : Bool) (code later : ℕ) → m ≡ ok → not m ≡ true → code ≡ unless ok code later
+given m ok code later e t = rw (fails e t)
+
+pub passed : (m ok : Bool) (code later r : ℕ) → m ≡ ok → not m ≡ false → r ≡ later → r ≡ unless ok code later
+passed m ok code later r e t z = rw (holds e t) z
+
 pub rows_lent_lem : (kind : Kind) (count lent : ℕ) → rows_ok kind count lent ≡ true → count * 4 ≤ lent
 unfolding rows_ok
 rows_lent_lem kind count lent e = leb-true _ _ (both (leb count max_rows && (has_map kind || eqb count 0)) (leb (count * 4) lent) e).1
