@@ -2,11 +2,13 @@
 // the buffer stays as it was, and the text has no length from then on.
 #![tactic(auto)]
 
-ghost use Rattle.std.specs.Prelude.{◌≡◌, [], ◌∷◌, ◌+◌, ◌<◌, ◌≤◌, length, IfSome, IsNone};
+ghost use Rattle.std.specs.Prelude.{◌≡◌, [], ◌∷◌, ◌+◌, ◌<◌, ◌≤◌, min, length, take, None, IfSome, IsNone, IsOk, IfOk};
+ghost use Rattle.std.specs.Io.{WritesAtMost};
+ghost use Rattle.std.specs.Io.KnownBytes.{Keeps, WriteAppends};
 ghost use Rattle.text.specs.Digits.{hex_digit_ascii};
 ghost use Rattle.text.specs.Numbers.{decimal, signed, hex_byte};
 ghost use Rattle.text.specs.Added.{place_of};
-ghost use Rattle.text.specs.Text.{WithAdded, BeginsIn, BeginsAgain, MakesRoom};
+ghost use Rattle.text.specs.Text.{WithAdded, BeginsIn, BeginsAgain, MakesRoom, Takes};
 
 use itoa::Buffer;
 use std::io;
@@ -124,14 +126,24 @@ impl<'a> Printer<'a> {
 
 impl Write for Printer<'_> {
     // As many of the bytes as the buffer can hold.
-    fn write(&mut self, bytes: &[u8]) -> io::Result<usize> {
+    fn write(&mut self, bytes: &[u8]) -> io::Result<usize>
+        ensures bound { WritesAtMost result bytes.now }
+        ensures bytes { WriteAppends None None result bytes.now }
+        ensures count { IfOk result (λ n. n ≡ min (length bytes.now) (length self.old.text.bytes.now)) }
+        ensures ok { IsOk result }
+        ensures takes { Takes (take (length self.old.text.bytes.now) bytes.now) self.old.text self.new.text }
+    {
         let n = bytes.len().min(self.text.bytes.len());
         self.make_room(n);
         self.text.add(&bytes[..n]);
         Ok(n)
     }
 
-    fn flush(&mut self) -> io::Result<()> {
+    fn flush(&mut self) -> io::Result<()>
+        ensures bytes { Keeps None None }
+        ensures ok { IsOk result }
+        ensures begins { BeginsAgain self.old.text self.new.text }
+    {
         self.print();
         Ok(())
     }

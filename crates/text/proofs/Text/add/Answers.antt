@@ -2,7 +2,7 @@
 use Rattle.std.proofs.Common.{ℕ, ◌+◌, ◌≡◌, ◌≤◌, length, Option, IfSome, IsNone}
 use mathlib.Core.Path.{refl, subst}
 use Rattle.text.specs.Added.{place_of}
-use Rattle.text.proofs.Adding.{adds_nothing, adds_word, length_added}
+use Rattle.text.proofs.Adding.{adds_nothing, adds_word, length_added, new_length, no_length}
 use Rattle.text.proofs.Text.add.Goals as goal
 
 pub returns-in_default : goal.returns-in_default
@@ -10,6 +10,7 @@ returns-in_default c =
     let none : IsNone c.place_after-self.result = rw c.in_default.is refl in
     record {
       text = rw c.in_default.is (adds_nothing c.args.word.now c.args.self.now.bytes.now (place_of c.args.self.now.len) (c.place_after-self.ensures.no_room none));
+      len_is = rw c.in_default.is (no_length c.args.word.now c.args.self.now.bytes.now (place_of c.args.self.now.len) (c.place_after-self.ensures.no_room none));
       same_length = refl;
       same_buffer = refl;
     }
@@ -23,6 +24,7 @@ returns-in-Some c =
     let line = adds_word text word _ at c.in-Some.end fits c.copy_from_slice.ensures.after in
     record {
       text = rw c.in-Some.is line;
+      len_is = rw c.in-Some.is (new_length word text at _ fits);
       same_length = length_added word text at _ _ line;
       same_buffer = refl;
     }
