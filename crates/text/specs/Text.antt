@@ -35,6 +35,10 @@ pub record MakesRoom (n : ℕ) (before after : Text) : Type 0 where
   pub place : place_of after.len ≡ place_with_room n before.bytes.now (place_of before.len)
   pub same_buffer : after.bytes.ghost_name ≡ before.bytes.ghost_name
 
--- the word was added where there was room for it, and else after the text was printed and begun again
+-- the word was added where there was room for `n` bytes, and else after the text was printed and begun again
+abbrev pub TakesIn : (n : ℕ) → (word : List ℕ) → (before after : Text) → Type 0
+TakesIn n word before after = AddedAt (place_with_room n before.bytes.now (place_of before.len)) word before after
+
+-- the same, with room for just the word
 abbrev pub Takes : (word : List ℕ) → (before after : Text) → Type 0
-Takes word before after = AddedAt (place_with_room (length word) before.bytes.now (place_of before.len)) word before after
+Takes word before after = TakesIn (length word) word before after
