@@ -1,5 +1,6 @@
 // What is printed, and parts of bytes. Whether a write failed is dropped.
 use std::io::Stdout;
+use text::Printer;
 
 // Bytes as they are.
 pub(crate) fn print_raw(out: Stdout, bytes: &[u8]) {
@@ -8,9 +9,13 @@ pub(crate) fn print_raw(out: Stdout, bytes: &[u8]) {
 
 // Each byte as a space and two hexadecimal digits.
 pub(crate) fn print_bytes(out: Stdout, bytes: &[u8]) {
-    for byte in bytes {
-        let _ = print!(out; " {byte:02x}");
+    let mut space = [0; 256];
+    let mut out = Printer::new(out, &mut space);
+    for &byte in bytes {
+        out.add_byte(b' ');
+        out.add_hex(byte);
     }
+    out.print();
 }
 
 // The bytes from `start` up to `end`, as far as they exist.

@@ -2,8 +2,6 @@
 // takes all places, so nothing has to be known here of the places that it answers.
 use crate::escaped::Escaped;
 use refusals::Refusal;
-use std::io;
-use std::io::Write;
 use text::Printer;
 use wire_read::Field;
 
@@ -22,19 +20,18 @@ pub(crate) fn refusal(s: &[u8]) -> Option<Refusal> {
 // Prints the fields of a part up to its end, or to what is no field: the part of a group takes its
 // end tag in, and in a string without error nothing else is no field. A turn takes a byte at least.
 #[cycle(print_fields_print_nested)]
-pub(crate) fn print_fields(out: &mut Printer, level: u32, part: &[u8]) -> io::Result<()> {
+pub(crate) fn print_fields(out: &mut Printer, level: u32, part: &[u8]) {
     let mut at = 0;
     for _ in 0..part.len() {
         let Ok(Some(step)) = wire_walk::field_at(part, at) else {
             break;
         };
         match fields_inside(step.field, level, part, at) {
-            Some(inner) => print_nested(out, level, inner)?,
-            None => print_value(out, level, step.field, part)?,
+            Some(inner) => print_nested(out, level, inner),
+            None => print_value(out, level, step.field, part),
         }
         at = step.at;
     }
-    Ok(())
 }
 
 // The fields inside a field, and its number.
@@ -46,36 +43,62 @@ struct Inner<'a> {
 
 // A field with fields inside.
 #[cycle(print_fields_print_nested)]
-fn print_nested(out: &mut Printer, level: u32, inner: Inner) -> io::Result<()> {
+fn print_nested(out: &mut Printer, level: u32, inner: Inner) {
     if level >= LEVELS {
-        return Ok(());
+        return;
     }
-    let indent = indent(level);
-    let number = inner.number;
-    writeln!(out, "{indent}{number} {{")?;
-    print_fields(out, level + 1, inner.part)?;
-    writeln!(out, "{indent}}}")
+    add_number(out, level, inner.number);
+    out.add(b" {\n");
+    print_fields(out, level + 1, inner.part);
+    out.add(indent(level));
+    out.add(b"}\n");
 }
 
 // A field in one line. Groups are not printed here.
-fn print_value(out: &mut Printer, level: u32, field: Field, part: &[u8]) -> io::Result<()> {
-    let indent = indent(level);
+fn print_value(out: &mut Printer, level: u32, field: Field, part: &[u8]) {
     match field {
-        Field::Varint(number, value, _) => writeln!(out, "{indent}{number}: {value}"),
-        Field::Fixed64(number, value, _) => writeln!(out, "{indent}{number}: 0x{value:016x}"),
-        Field::Fixed32(number, value, _) => writeln!(out, "{indent}{number}: 0x{value:08x}"),
-        Field::Bytes(number, start, length) => {
-            let bytes = Escaped(bytes_at(part, start, length));
-            writeln!(out, "{indent}{number}: \"{bytes}\"")
+        Field::Varint(number, value, _) => {
+            add_name(out, level, number);
+            out.add_decimal(value);
+            out.add_byte(b'\n');
         }
-        Field::Group(..) => Ok(()),
+        Field::Fixed64(number, value, _) => print_hex(out, level, number, &value.to_be_bytes()),
+        Field::Fixed32(number, value, _) => print_hex(out, level, number, &value.to_be_bytes()),
+        Field::Bytes(number, start, length) => {
+            add_name(out, level, number);
+            out.add_byte(b'"');
+            Escaped(bytes_at(part, start, length)).add_to(out);
+            out.add(b"\"\n");
+        }
+        Field::Group(..) => {}
     }
 }
 
+// A value as `0x` and two digits for each of its bytes.
+fn print_hex(out: &mut Printer, level: u32, number: u32, value: &[u8]) {
+    add_name(out, level, number);
+    out.add(b"0x");
+    for &byte in value {
+        out.add_hex(byte);
+    }
+    out.add_byte(b'\n');
+}
+
+// The number of a field whose value follows in the line.
+fn add_name(out: &mut Printer, level: u32, number: u32) {
+    add_number(out, level, number);
+    out.add(b": ");
+}
+
+fn add_number(out: &mut Printer, level: u32, number: u32) {
+    out.add(indent(level));
+    out.add_decimal(u64::from(number));
+}
+
 // Two spaces for each level, of which there are at most 32.
-fn indent(level: u32) -> &'static str {
-    let spaces = "                                                                ";
-    spaces.get(..level as usize * 2).unwrap_or("")
+fn indent(level: u32) -> &'static [u8] {
+    let spaces = b"                                                                ";
+    spaces.get(..level as usize * 2).unwrap_or(b"")
 }
 
 // A group has fields inside, and so have bytes that look like a message.

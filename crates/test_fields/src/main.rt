@@ -26,11 +26,11 @@ fn next_part(from: Stdin, buffer: &mut [u8]) -> Option<&[u8]> {
 fn print_string(out: Stdout, label: &[u8], string: &[u8]) -> io::Result<()> {
     let mut space = [0; 4096];
     let mut out = Printer::new(out, &mut space);
-    out.write_all(b"# ")?;
-    out.write_all(label)?;
-    out.write_all(b"\n")?;
+    out.add(b"# ");
+    out.add(label);
+    out.add_byte(b'\n');
     match refusal(string) {
-        None => print_fields(&mut out, 0, string)?,
+        None => print_fields(&mut out, 0, string),
         Some(refusal) => writeln!(out, "refused {}", refusal.number())?,
     }
     out.flush()
@@ -38,9 +38,10 @@ fn print_string(out: Stdout, label: &[u8], string: &[u8]) -> io::Result<()> {
 
 // Prints the next string of the input; nothing where there is none. Whether a write failed is dropped.
 fn print_next(from: Stdin, out: Stdout, label: &mut [u8], string: &mut [u8]) -> Option<()> {
-    let label = next_part(from, label)?;
-    let string = next_part(from, string)?;
-    let _ = print_string(out, label, string);
+    // Both are read, whatever became of the first.
+    let label = next_part(from, label);
+    let string = next_part(from, string);
+    let _ = print_string(out, label?, string?);
     Some(())
 }
 

@@ -8,18 +8,19 @@
 #![tactic(auto)]
 
 mod head;
+mod lines;
 mod numbers;
 mod parts;
 mod record;
 
 use head::Head;
+use lines::write_line;
 use message::read_spans;
 use numbers::{LENT, write_numbers};
 use parts::{Bytes, Part};
-use record::{rows_of, write_line, write_record};
+use record::{rows_of, write_record};
 use schema::Kind;
-use std::io;
-use std::io::{Stdin, Stdout, Write};
+use std::io::{Stdin, Stdout};
 use test_cases::read_part;
 use text::Printer;
 
@@ -82,23 +83,17 @@ fn write_frame(out: &mut Printer, kind: Kind, frame: &[u8], rows: &mut [u32]) {
     }
 }
 
-fn print_case(
-    out: Stdout,
-    label: &[u8],
-    kind: Kind,
-    frame: &[u8],
-    rows: &mut [u32],
-) -> io::Result<()> {
+fn print_case(out: Stdout, label: &[u8], kind: Kind, frame: &[u8], rows: &mut [u32]) {
     let mut space = [0; 4096];
     let mut out = Printer::new(out, &mut space);
-    out.write_all(b"# ")?;
-    out.write_all(label)?;
-    out.write_all(b"\n")?;
+    out.add(b"# ");
+    out.add(label);
+    out.add_byte(b'\n');
     write_frame(&mut out, kind, frame, rows);
-    out.flush()
+    out.print();
 }
 
-// Prints the next case of the input; nothing where there is none that is whole. Whether a write failed is dropped.
+// Prints the next case of the input; nothing where there is none that is whole.
 fn print_next(
     from: Stdin,
     out: Stdout,
@@ -112,7 +107,7 @@ fn print_next(
     let label = read_part(from, label, head.label)?;
     let frame = read_part(from, frame, head.size)?;
     let rows = rows.get_mut(..head.lent)?;
-    let _ = print_case(out, label, kind_of(head.kind), frame, rows);
+    print_case(out, label, kind_of(head.kind), frame, rows);
     Some(())
 }
 

@@ -1,7 +1,7 @@
 // The row numbers: what is lent to the reader, and what it made of it.
+use crate::lines::Value;
 use crate::parts::Part;
 use records::Span;
-use std::io::Write;
 use text::Printer;
 
 // What the row numbers are before a frame is read. No place or length in a frame is as large.
@@ -21,8 +21,13 @@ pub(crate) fn write_numbers(out: &mut Printer, count: u32, frame: &[u8], numbers
         .skip(zeros)
         .take_while(|&&number| number == LENT)
         .count();
-    let taken = rows.len();
-    let _ = writeln!(out, "numbers {taken} zeros {zeros} kept {kept}");
+    out.add(b"numbers ");
+    out.add_decimal(rows.len() as u64);
+    out.add(b" zeros ");
+    out.add_decimal(zeros as u64);
+    out.add(b" kept ");
+    out.add_decimal(kept as u64);
+    out.add_byte(b'\n');
 }
 
 fn write_row(out: &mut Printer, row: &[u32], frame: &[u8]) {
@@ -37,7 +42,9 @@ fn write_row(out: &mut Printer, row: &[u32], frame: &[u8]) {
         start: value_start,
         len: value_len,
     };
-    let key = Part { span: key, frame };
-    let value = Part { span: value, frame };
-    let _ = writeln!(out, "row {key} {value}");
+    out.add(b"row ");
+    Part { span: key, frame }.add_to(out);
+    out.add_byte(b' ');
+    Part { span: value, frame }.add_to(out);
+    out.add_byte(b'\n');
 }

@@ -1,6 +1,7 @@
 // Parts of a frame as text.
+use crate::lines::Value;
 use records::Span;
-use std::fmt;
+use text::Printer;
 
 // Bytes: how many they are, and each in hexadecimal.
 #[derive(Clone, Copy)]
@@ -9,14 +10,13 @@ pub(crate) struct Bytes<'a> {
     pub bytes: &'a [u8],
 }
 
-impl fmt::Display for Bytes<'_> {
-    fn fmt<W: fmt::Write>(&self, f: &mut fmt::Formatter<W>) -> fmt::Result {
-        let length = self.length;
-        write!(f, "{length} ")?;
+impl Value for Bytes<'_> {
+    fn add_to(self, out: &mut Printer) {
+        out.add_decimal(self.length as u64);
+        out.add_byte(b' ');
         for &byte in self.bytes {
-            write!(f, "{byte:02x}")?;
+            out.add_hex(byte);
         }
-        Ok(())
     }
 }
 
@@ -37,10 +37,10 @@ impl<'a> Part<'a> {
     }
 }
 
-impl fmt::Display for Part<'_> {
-    fn fmt<W: fmt::Write>(&self, f: &mut fmt::Formatter<W>) -> fmt::Result {
-        let start = self.span.start;
-        let bytes = self.bytes();
-        write!(f, "{start} {bytes}")
+impl Value for Part<'_> {
+    fn add_to(self, out: &mut Printer) {
+        out.add_decimal(u64::from(self.span.start));
+        out.add_byte(b' ');
+        self.bytes().add_to(out);
     }
 }

@@ -1,18 +1,12 @@
 // A record: a line with its kind and id, one with its version, and one for each of its fields, in the order of source document 000.
+use crate::lines::write_line;
 use crate::parts::Part;
 use records::{
     Close, Data, Feedback, Init, Record, Request, RequestMeta, Response, ResponseMeta, Span,
 };
-use std::fmt::Display;
-use std::io::Write;
 use text::Printer;
 
-// The line `NAME VALUE`. A printer drops whether a write failed.
-pub(crate) fn write_line<D: Display + Drop>(out: &mut Printer, name: &str, value: D) {
-    let _ = writeln!(out, "{name} {value}");
-}
-
-// The same of a part of the frame.
+// The line `NAME VALUE` of a part of the frame.
 fn write_part(out: &mut Printer, name: &str, span: Span, frame: &[u8]) {
     write_line(out, name, Part { span, frame });
 }

@@ -31,9 +31,12 @@ struct Buffers<'a> {
     out: &'a mut [u8],
 }
 
+// After so many bytes the output begins again, before a frame is written.
+const PERIOD: usize = 251;
+
 // The byte at place `i` of the output before a frame is written.
 fn pattern(i: usize) -> u8 {
-    (255 - i % 251) as u8
+    (255 - i % PERIOD) as u8
 }
 
 // How many bytes from `from` on are as they were, up to the first that is not.
@@ -55,11 +58,13 @@ fn write_frame(
 ) -> io::Result<usize> {
     match writer::write(record, source, rows, body, out, MAX_FRAME as u32) {
         Ok(size) => {
-            write!(to, "frame {size} ")?;
-            for byte in out.iter().take(size) {
-                write!(to, "{byte:02x}")?;
+            to.add(b"frame ");
+            to.add_decimal(size as u64);
+            to.add_byte(b' ');
+            for &byte in out.iter().take(size) {
+                to.add_hex(byte);
             }
-            writeln!(to)?;
+            to.add_byte(b'\n');
             Ok(size)
         }
         Err(refusal) => {
@@ -70,13 +75,13 @@ fn write_frame(
     }
 }
 
-fn print_label(stdout: Stdout, label: &[u8]) -> io::Result<()> {
+fn print_label(stdout: Stdout, label: &[u8]) {
     let mut space = [0; 260];
     let mut to = Printer::new(stdout, &mut space);
-    to.write_all(b"# ")?;
-    to.write_all(label)?;
-    to.write_all(b"\n")?;
-    to.flush()
+    to.add(b"# ");
+    to.add(label);
+    to.add_byte(b'\n');
+    to.print();
 }
 
 fn print_case(
@@ -89,8 +94,10 @@ fn print_case(
 ) -> io::Result<()> {
     let mut space = [0; 4096];
     let mut to = Printer::new(stdout, &mut space);
-    for (i, byte) in out.iter_mut().enumerate() {
-        *byte = pattern(i);
+    for part in out.chunks_mut(PERIOD) {
+        for (i, byte) in part.iter_mut().enumerate() {
+            *byte = pattern(i);
+        }
     }
     let end = write_frame(&mut to, record, source, rows, body, out)?;
     let kept = count_kept(out, end);
@@ -110,7 +117,7 @@ fn print_next(stdin: Stdin, stdout: Stdout, lent: &mut Buffers) -> Option<()> {
     read_numbers(stdin, rows)?;
     let source = read_repeated(stdin, lent.source, head.source_given, head.source)?;
     let body = read_repeated(stdin, lent.body, head.body_given, head.body)?;
-    let _ = print_label(stdout, label);
+    print_label(stdout, label);
     let out = lent.out.get_mut(..head.room)?;
     let record = record_of(head, fields);
     let _ = print_case(stdout, record, source, rows, body, out);

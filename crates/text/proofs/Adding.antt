@@ -1,6 +1,7 @@
 -- What is added to the text: a word where there is room, and one thing after another is both at once
 use Prim.Native.Nat.{ℕ, suc, ◌+◌, ◌-◌, ◌≤◌, ◌<◌}
 use mathlib.Core.Path.{◌≡◌, refl, ap, ap₂, sym, subst, ◌∙◌}
+use Rattle.std.specs.Prelude.{None, Some}
 use mathlib.Core.List.{List, [], ◌∷◌, ◌++◌, append_assoc}
 use native.Mathlib.Omega.{arith}
 use borrow.Author.Tests.{le-leb, lt-leb}
@@ -8,7 +9,7 @@ use lib.ListN.{length, take, drop, length-append, length-take, length-drop}
 use native.Mathlib.Decide.{dec_le}
 use lib.Seq.{sets, sets-eq, length-sets, drop-drop}
 use borrow.Rule.Slice.PartMut.{put_mid}
-use Rattle.text.specs.Added.{Buffered, full, with_text, added, Adds}
+use Rattle.text.specs.Added.{Buffered, full, with_text, added, len_after, Adds}
 
 -- no room
 pub adds_nothing : (word text : List ℕ) (at : ℕ) → length text < at + length word
@@ -21,6 +22,15 @@ adds_all : (word text : List ℕ) (at : ℕ) → at + length word ≤ length tex
     → record { bytes = with_text text at word; place = at + length word } ≡ added word text at
 unfolding added
 adds_all word text at h = rw (le-leb (at + length word) (length text) h)
+
+-- the length, by the room
+pub no_length : (word text : List ℕ) (at : ℕ) → length text < at + length word → None ≡ len_after word text at
+no_length word text at h = rw (lt-leb (at + length word) (length text) h)
+
+pub new_length : (word text : List ℕ) (at end : ℕ) → (end ≡ at + length word) × (end ≤ length text) → Some end ≡ len_after word text at
+new_length word text at end h =
+    let e = h.0 in
+    rw (le-leb (at + length word) (length text) (omega (arith, h.1)), ← e)
 
 -- a word copied to the place that it ends from
 pub adds_word : (text word part : List ℕ) (at end : ℕ) → (end ≡ at + length word) × (end ≤ length text) → part ≡ word

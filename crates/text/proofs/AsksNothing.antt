@@ -27,3 +27,30 @@ printer_make_room M 𝓤 𝓛 mem run κs a = (tt, refl)
 
 pub printer_print : AsksNothing entry.Printer.print.signature (λ M 𝓤. entry.Printer.print.spec)
 printer_print M 𝓤 𝓛 mem run κs a = (tt, refl)
+
+pub printer_add : AsksNothing entry.Printer.add.signature (λ M 𝓤. entry.Printer.add.spec)
+printer_add M 𝓤 𝓛 mem run κs a = (tt, refl)
+
+pub printer_add_byte : AsksNothing entry.Printer.add_byte.signature (λ M 𝓤. entry.Printer.add_byte.spec)
+printer_add_byte M 𝓤 𝓛 mem run κs a = (tt, refl)
+
+pub printer_add_decimal : AsksNothing entry.Printer.add_decimal.signature (λ M 𝓤. entry.Printer.add_decimal.spec)
+printer_add_decimal M 𝓤 𝓛 mem run κs a = (tt, refl)
+
+pub printer_add_signed : AsksNothing entry.Printer.add_signed.signature (λ M 𝓤. entry.Printer.add_signed.spec)
+printer_add_signed M 𝓤 𝓛 mem run κs a = (tt, refl)
+
+pub printer_add_hex : AsksNothing entry.Printer.add_hex.signature (λ M 𝓤. entry.Printer.add_hex.spec)
+printer_add_hex M 𝓤 𝓛 mem run κs a = (tt, refl)
+
+pub with_room : AsksNothing entry.with_room.signature (λ M 𝓤. entry.with_room.spec)
+with_room M 𝓤 𝓛 mem run κs a = (tt, refl)
+
+pub print : AsksNothing entry.print.signature (λ M 𝓤. entry.print.spec)
+print M 𝓤 𝓛 mem run κs a = (tt, refl)
+
+pub printer_write : AsksNothing entry.PrinterWrite.write.signature (λ M 𝓤. entry.PrinterWrite.write.spec)
+printer_write M 𝓤 𝓛 mem run κs a = (tt, refl)
+
+pub printer_flush : AsksNothing entry.PrinterWrite.flush.signature (λ M 𝓤. entry.PrinterWrite.flush.spec)
+printer_flush M 𝓤 𝓛 mem run κs a = (tt, refl)

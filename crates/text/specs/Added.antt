@@ -25,6 +25,10 @@ added word text at =
     (record { bytes = with_text text at word; place = at + length word })
     (record { bytes = text; place = full })
 
+-- the length after a word was added at `at`: none where there was no room, and no number then
+abbrev pub len_after : (word : List ℕ) → (text : List ℕ) → (at : ℕ) → Option ℕ
+len_after word text at = cond (leb (at + length word) (length text)) (Some (at + length word)) None
+
 -- where `n` bytes more can be added: at `at` where there is room for them, and else at the start. The text up to `at` is printed first,
 -- unless `at` is past the buffer. A buffer shorter than `n` has no such place
 abbrev pub place_with_room : (n : ℕ) → (text : List ℕ) → (at : ℕ) → ℕ
