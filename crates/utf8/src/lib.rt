@@ -66,9 +66,6 @@ impl Begun {
         ensures { (s : List ℕ) → goes_on (Some self) (b ∷ s) ≡ goes_on result s }
     {
         if self.need == 0 {
-            if b < 0x80 {
-                return Some(BETWEEN);
-            }
             return Some(Begun {
                 need: follows(b)?,
                 lo: lowest(b),
